@@ -1,0 +1,4 @@
+pub mod Layout
+pub mod Files
+pub mod Faults
+pub mod Laws

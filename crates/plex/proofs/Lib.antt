@@ -1,0 +1,6 @@
+pub mod Count
+pub mod Words
+pub mod Pack
+pub mod Rising
+pub mod Distance
+pub mod Laws

@@ -1,0 +1,5 @@
+pub mod Sets
+pub mod Words
+pub mod Meaning
+pub mod Distance
+pub mod Laws
