@@ -1,14 +1,16 @@
 -- The rising list of a set: its length, its marks, their order.
-use mathlib.Core.Path.{_≡_, refl, sym, ap, _∙_}
+use mathlib.Core.Path.{_≡_, refl, sym, ap, ap₂, _∙_}
 use mathlib.Core.Logic.{_⊎_, inl, inr}
 use mathlib.Core.List.{List, [], _∷_, _++_}
-use mathlib.Core.Bool.{Bool, true, false}
+use mathlib.Core.Bool.{Bool, true, false, not, _&&_}
 use Prim.Native.Nat.{ℕ, zero, suc, _+_, _-_, _≤_, _<_}
 use native.Mathlib.Omega.{arith}
 use lib.ListN.{length, getD, length-append}
 use Rattle.std.proofs.shelf.Tests.{cases-lt, cases-bool}
 use Rattle.std.proofs.shelf.Lists.{getD-append-left, getD-push}
-use Rattle.plex.specs.Sets.{Set, one-if, card, if-in, rising}
+use lib.Dec.{eqb}
+use Rattle.std.proofs.shelf.Ways.{tells}
+use Rattle.plex.specs.Sets.{Set, one-if, card, _∖_, only, if-in, rising}
 
 length-if-in : (b : Bool) (n : ℕ) → length (if-in b n) ≡ one-if b
 length-if-in true n = refl
@@ -65,4 +67,31 @@ rising-rises (suc n) s p q l h =
     | inr w ↦ (let m : p < length (rising n s) = omega (arith, w .1) in
         let e = getD-append-left (rising n s) (if-in (s n) n) 0 p m in
         omega (arith, w .2, rising-within n s p m .0))
+    ]
+
+-- the list of an empty set, and of a set with its lowest mark
+pub rising-none : (n : ℕ) (s : Set) → ((i : ℕ) → i < n → s i ≡ false) → rising n s ≡ []
+unfolding rising
+rising-none zero s h = refl
+rising-none (suc n) s h = ap₂ _++_ (rising-none n s (λ i l. h i (omega arith))) (ap (λ b. if-in b n) (h n (omega arith)))
+
+rising-same : (n : ℕ) (s t : Set) → ((i : ℕ) → i < n → s i ≡ t i) → rising n s ≡ rising n t
+unfolding rising
+rising-same zero s t h = refl
+rising-same (suc n) s t h = ap₂ _++_ (rising-same n s t (λ i l. h i (omega arith))) (ap (λ b. if-in b n) (h n (omega arith)))
+
+kept-other : (s : Set) (u i : ℕ) → (i ≡ u → ⊥) → (s ∖ only u) i ≡ s i
+kept-other s u i h = grind (arith, tells)
+
+pub rising-first : (n : ℕ) (s : Set) (u : ℕ) → u < n → s u ≡ true → ((i : ℕ) → i < u → s i ≡ false) → rising n s ≡ u ∷ rising n (s ∖ only u)
+unfolding rising
+rising-first zero s u l t h = absurd (omega arith)
+rising-first (suc n) s u l t h =
+    elim (cases-lt u n) [
+      inl m ↦ ap₂ _++_ (rising-first n s u m t h) (ap (λ b. if-in b n) (sym (kept-other s u n (λ e. omega arith))))
+    | inr m ↦ (let e : n ≡ u = omega arith in
+        let gone : (s ∖ only u) n ≡ false = grind (arith, tells) in
+        ap₂ _++_ (rising-none n s (λ i k. h i (omega arith))) (ap (λ b. if-in b n) (ap s e ∙ t))
+        ∙ ap (λ m. m ∷ []) e
+        ∙ sym (ap (λ ys. u ∷ ys) (ap₂ _++_ (rising-none n (s ∖ only u) (λ i k. kept-other s u i (λ f. omega arith) ∙ h i (omega arith))) (ap (λ b. if-in b n) gone))))
     ]
