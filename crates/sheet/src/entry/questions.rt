@@ -1,0 +1,1 @@
+// A sealed sheet is a sheet.
