@@ -7,7 +7,7 @@ use native.Mathlib.Numerals.{one-add}
 use native.Mathlib.Omega.{arith}
 use lib.Dec.{eqb}
 use lib.ListN.{length, getD, set}
-use lib.Bits.{bitAnd, bitOr, and-step, or-step, and-shr, or-shr}
+use lib.Bits.{bitAnd, bitOr, and-mask, and-step, or-step, and-shr, or-shr}
 use lib.Count.{ones, ones-step}
 use lib.Pow.{shr-shr, pow-pos}
 use Rattle.std.proofs.shelf.Tests.{cases-eq}
@@ -139,3 +139,8 @@ holds-remove ws i l =
   where
     same : (b : ℕ) → b < 32 → eqb b (i % 32) ≡ eqb (i / 32 * 32 + b) i
     same b h = grind (arith, tells)
+
+-- the test of a bit, as a program writes it
+pub bit-test : (w b : ℕ) → eqb (bitAnd (w / 2 ^ b) 1) 1 ≡ bits-of w b
+unfolding bits-of
+bit-test w b = ap (λ x. eqb x 1) (and-mask (w / 2 ^ b) 1)

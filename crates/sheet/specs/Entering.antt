@@ -12,6 +12,7 @@ use Rattle.plex.specs.Sets.{Agreement}
 use Rattle.plex.specs.Meaning.{agree-by}
 use Rattle.sheet.specs.Rows.{row-words, bit-entered, both-bits, marks-held}
 use Rattle.sheet.specs.declared.entry.Entry.{Entry}
+use Rattle.sheet.specs.declared.entry.Sealed.{Sealed}
 use Rattle.sheet.specs.declared.entry.NotBegun.{NotBegun}
 use Rattle.sheet.specs.declared.entry.EntryRefusal.{EntryRefusal}
 use Rattle.sheet.specs.declared.entry.EntryRefusal.the-variants.{TooManyMarks, TooFewWords, NoSuchMark, SameMark}
@@ -25,7 +26,11 @@ number SameMark = 24
 
 -- which marks agree so far, by the words and the number of marks that the entry was begun for
 abbrev pub entered : List ℕ → ℕ → Agreement
-entered ws n = agree-by (marks-held ws n) (both-bits ws (row-words n))
+entered ws n = agree-by (marks-held (length ws) n) (both-bits ws (row-words n))
+
+-- which marks of a sealed sheet agree
+abbrev pub sealed : Sealed → Agreement
+sealed s = agree-by (s .marks) (both-bits (now (s .words)) (row-words (s .marks)))
 
 -- an entry of n marks is begun in the words ws: the words of its rows are cleared, and no others
 pub record Begun (ws : List ℕ) (n : ℕ) (e : Entry) : Type 0 where
@@ -33,7 +38,7 @@ pub record Begun (ws : List ℕ) (n : ℕ) (e : Entry) : Type 0 where
   pub room : n * row-words n ≤ length ws
   pub marks : e .marks ≡ n
   pub cleared : now (e .words) ≡ replicate (n * row-words n) 0 ++ drop (n * row-words n) ws
-  pub holding : marks-held (now (e .words)) n ≡ n
+  pub holding : marks-held (length (now (e .words))) n ≡ n
   pub nothing : (i j : ℕ) → entered (now (e .words)) n i j ≡ false
 
 -- under which condition a beginning is refused
@@ -55,8 +60,8 @@ is-pair u v i j = (eqb i u && eqb j v) || (eqb i v && eqb j u)
 -- both bits are set, and so just this agreement is there besides those that were
 pub record Entered (ws : List ℕ) (n i j v : ℕ) (ws′ : List ℕ) : Type 0 where
   pub answer : v ≡ 0
-  pub first : i < marks-held ws n
-  pub second : j < marks-held ws n
+  pub first : i < marks-held (length ws) n
+  pub second : j < marks-held (length ws) n
   pub apart : i ≡ j → ⊥
   pub words : ws′ ≡ bit-entered (bit-entered ws (row-words n) i j) (row-words n) j i
   pub agreement : (p q : ℕ) → entered ws′ n p q ≡ (entered ws n p q || is-pair i j p q)
@@ -64,7 +69,7 @@ pub record Entered (ws : List ℕ) (n i j v : ℕ) (ws′ : List ℕ) : Type 0 w
 -- the pair i and j is entered among n marks in the words ws, which leaves the words ws′
 abbrev pub Enters : List ℕ → ℕ → ℕ → ℕ → Result ℕ EntryRefusal → List ℕ → Type 0
 Enters ws n i j (Ok v) ws′ = Entered ws n i j v ws′
-Enters ws n i j (Err NoSuchMark) ws′ = (i < marks-held ws n → j < marks-held ws n → ⊥) × (ws′ ≡ ws)
-Enters ws n i j (Err SameMark) ws′ = (i < marks-held ws n) × (j < marks-held ws n) × (i ≡ j) × (ws′ ≡ ws)
+Enters ws n i j (Err NoSuchMark) ws′ = (i < marks-held (length ws) n → j < marks-held (length ws) n → ⊥) × (ws′ ≡ ws)
+Enters ws n i j (Err SameMark) ws′ = (i < marks-held (length ws) n) × (j < marks-held (length ws) n) × (i ≡ j) × (ws′ ≡ ws)
 Enters ws n i j (Err TooManyMarks) ws′ = ⊥
 Enters ws n i j (Err TooFewWords) ws′ = ⊥

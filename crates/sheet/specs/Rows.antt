@@ -4,7 +4,7 @@ use mathlib.Core.List.{List}
 use Prim.Native.Nat.{ℕ, _+_, _*_, _/_, _%_, _^_}
 use lib.Bits.{bitOr}
 use lib.Dec.{leb}
-use lib.ListN.{length, getD, take, drop, set}
+use lib.ListN.{getD, take, drop, set}
 use Rattle.plex.specs.Sets.{Agreement}
 use Rattle.plex.specs.Words.{holds}
 
@@ -28,6 +28,6 @@ bit-entered ws r i j = set ws (i * r + j / 32) (bitOr (getD ws (i * r + j / 32) 
 abbrev pub both-bits : List ℕ → ℕ → Agreement
 both-bits ws r i j = bit-of ws r i j && bit-of ws r j i
 
--- the marks of an entry: all n, if they are at most 128 and the words have room for their rows, and otherwise none
-abbrev pub marks-held : List ℕ → ℕ → ℕ
-marks-held ws n = cond (leb n 128 && leb (n * row-words n) (length ws)) n 0
+-- the marks of an entry for n marks in so many words: all n, if they are at most 128 and their rows fit, and otherwise none
+abbrev pub marks-held : ℕ → ℕ → ℕ
+marks-held room n = cond (leb n 128 && leb (n * row-words n) room) n 0

@@ -1,12 +1,12 @@
 // Beginning an entry, entering pairs, and sealing.
 ghost use mathlib.Core.Path.{_≡_};
-ghost use Prim.Native.Nat.{_+_, _*_, _/_, _%_, _^_, _≤_, _<_};
+ghost use Prim.Native.Nat.{ℕ, _+_, _*_, _/_, _%_, _^_, _≤_, _<_};
 ghost use lib.Bits.{bitOr};
 ghost use lib.ListN.{length, getD, set, replicate};
 ghost use denote.Ref.{name};
 ghost use Rattle.std.specs.declared.result.Result.the-variants.{Ok, Err};
 ghost use Rattle.sheet.specs.Rows.{row-words, bit-entered, marks-held};
-ghost use Rattle.sheet.specs.Entering.{number, Begins, Enters};
+ghost use Rattle.sheet.specs.Entering.{number, entered, sealed, Begins, Enters};
 use super::Entry;
 use super::EntryRefusal;
 use super::NotBegun;
@@ -41,11 +41,17 @@ fn set_bit(row: &mut [u32], j: u32)
     row[j as usize / 32] |= 1 << (j % 32);
 }
 
-// How many marks the words have rows for.
-fn held(words: &[u32], marks: u32) -> u32
-    ensures { λ r. ⌜ r ≡ marks-held (now (words .entry)) marks ⌝ }
+fn clear(part: &mut [u32])
+    ensures { λ _. ⌜ now (part .exit) ≡ replicate (length (now (part .entry))) 0 ⌝ }
 {
-    if marks <= 128 && marks as usize * words_in_row(marks) <= words.len() { marks } else { 0 }
+    part.fill(0);
+}
+
+// How many marks have rows in so many words.
+fn held(room: usize, marks: u32) -> u32
+    ensures { λ r. ⌜ r ≡ marks-held room marks ⌝ }
+{
+    if marks <= 128 && marks as usize * words_in_row(marks) <= room { marks } else { 0 }
 }
 
 impl<'a> Entry<'a> {
@@ -61,7 +67,7 @@ impl<'a> Entry<'a> {
         if words.len() < rows {
             return Err(NotBegun { refusal: EntryRefusal::TooFewWords, words });
         }
-        words[0..rows].fill(0);
+        clear(&mut words[0..rows]);
         Ok(Entry { words, marks })
     }
 
@@ -70,7 +76,7 @@ impl<'a> Entry<'a> {
         ensures marks { λ _. ⌜ now (self .exit) .marks ≡ now (self .entry) .marks ⌝ }
         ensures enters { λ r. ⌜ Enters (now (now (self .entry) .words)) (now (self .entry) .marks) i j r (now (now (self .exit) .words)) ⌝ }
     {
-        let marks = held(self.words, self.marks);
+        let marks = held(self.words.len(), self.marks);
         if i >= marks || j >= marks {
             return Err(EntryRefusal::NoSuchMark);
         }
@@ -84,7 +90,7 @@ impl<'a> Entry<'a> {
 
     // Sets bit j of the row of mark i: the row is lent to the setter.
     fn enter_bit(&mut self, i: u32, j: u32)
-        requires { ⌜ i < marks-held (now (now self .words)) (now self .marks) ⌝ ∗ ⌜ j < marks-held (now (now self .words)) (now self .marks) ⌝ }
+        requires { ⌜ i < marks-held (length (now (now self .words))) (now self .marks) ⌝ ∗ ⌜ j < marks-held (length (now (now self .words))) (now self .marks) ⌝ }
         ensures marks { λ _. ⌜ now (self .exit) .marks ≡ now (self .entry) .marks ⌝ }
         ensures words { λ _. ⌜ now (now (self .exit) .words) ≡ bit-entered (now (now (self .entry) .words)) (row-words (now (self .entry) .marks)) i j ⌝ }
     {
@@ -96,10 +102,11 @@ impl<'a> Entry<'a> {
     // The sheet that was entered. It takes no more agreements.
     pub fn seal(self) -> Sealed<'a>
         ensures words { λ s. ⌜ now (s .words) ≡ now (self .entry .words) ⌝ }
-        ensures marks { λ s. ⌜ s .marks ≡ marks-held (now (self .entry .words)) (self .entry .marks) ⌝ }
+        ensures marks { λ s. ⌜ s .marks ≡ marks-held (length (now (self .entry .words))) (self .entry .marks) ⌝ }
+        ensures agreement { λ s. ⌜ ((i j : ℕ) → sealed s i j ≡ entered (now (self .entry .words)) (self .entry .marks) i j) ⌝ }
     {
         let Entry { words, marks } = self;
-        let marks = held(words, marks);
+        let marks = held(words.len(), marks);
         Sealed { words, marks }
     }
 }

@@ -1,17 +1,14 @@
 use borrow.Author.Needs.{needs}
-use mathlib.Core.Path.{_≡_, sym, ap, _∙_}
-use Prim.Native.Nat.{_/_, _%_, _^_}
-use lib.Bits.{bitAnd, and-mask}
-use lib.Dec.{eqb}
+use mathlib.Core.Path.{_≡_, sym, _∙_}
+use Prim.Native.Nat.{_/_, _%_}
 use lib.ListN.{length, getD}
 use Rattle.std.proofs.shelf.Tests.{le-ltb}
-use Rattle.plex.specs.Words.{bits-of}
+use Rattle.plex.proofs.Words.{bit-test}
 use Rattle.marks.proofs.Four.{holds-past}
 use Rattle.marks.proofs.set.MarkSet.has.Needs as need
 
 pub returns-then-mark-lt128 : need.returns-then-mark-lt128
-unfolding bits-of
-returns-then-mark-lt128 c = ap (λ x. eqb x 1) (and-mask (getD (c .args .self .words) (c .args .mark / 32) 0 / 2 ^ (c .args .mark % 32)) 1)
+returns-then-mark-lt128 c = bit-test (getD (c .args .self .words) (c .args .mark / 32) 0) (c .args .mark % 32)
 
 pub returns-else-mark-lt128 : need.returns-else-mark-lt128
 returns-else-mark-lt128 c =
