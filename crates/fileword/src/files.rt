@@ -1,3 +1,6 @@
+ghost use mathlib.Core.Path.{_≡_};
+ghost use Rattle.fileword.specs.Faults.{number};
+
 // The two forms of a file.
 #[derive(Clone, Copy, PartialEq, Eq, Debug)]
 pub enum Form {
@@ -38,9 +41,33 @@ pub enum Fault {
     NoEnd,
 }
 
+impl Fault {
+    // The number of the refusal.
+    pub fn number(self) -> u32
+        ensures { λ r. ⌜ r ≡ number self ⌝ }
+    {
+        match self {
+            Fault::WrongKind => 11,
+            Fault::SpareBit => 12,
+            Fault::OutOfRange => 13,
+            Fault::WrongPair => 14,
+            Fault::WrongEnd => 15,
+            Fault::NoEnd => 16,
+        }
+    }
+}
+
 // A file is refused for a fault of the word at a place, counted from 0.
 #[derive(Clone, Copy, PartialEq, Eq, Debug)]
 pub struct FileRefusal {
     pub fault: Fault,
     pub place: usize,
+}
+
+impl FileRefusal {
+    pub fn number(self) -> u32
+        ensures { λ r. ⌜ r ≡ number (self .fault) ⌝ }
+    {
+        self.fault.number()
+    }
 }

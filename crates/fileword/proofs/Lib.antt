@@ -1,0 +1,15 @@
+pub mod Words
+pub mod WordTests
+pub mod Coordinates
+pub mod Points
+pub mod Clean
+pub mod Heads
+pub mod PairWords
+pub mod PairsRead
+pub mod MeasuredWords
+pub mod MeasuredRead
+pub mod Rising
+pub mod PairsClean
+pub mod MeasuredClean
+pub mod Verdict
+pub mod ReadBack
