@@ -1,0 +1,4 @@
+pub mod Ends
+pub mod Verdict
+pub mod Naming
+pub mod Reading

@@ -1,0 +1,4 @@
+pub mod Finding
+pub mod Sheets
+pub mod Pairing
+pub mod Points
