@@ -45,7 +45,7 @@ impl Page {
     }
 
     // Puts a number behind the text, in decimal digits; what does not fit is left out.
-    pub fn push_number(&mut self, n: u32)
+    pub fn push_number(&mut self, n: usize)
         ensures { λ _. ⌜ shown (now (self .exit)) ≡ take 512 (shown (now (self .entry)) ++ decimal n) ⌝ }
     {
         if n >= 10 {
