@@ -2,15 +2,13 @@
 ghost use Rattle.fileword.specs.Laws.{Accepted-when-good, Read-back};
 
 // Words without a fault are a good file, a good file has no fault, and there is one verdict.
-pub fn accepted_when_good() -> u8
+pub fn accepted_when_good()
     ensures { λ _. ⌜ Accepted-when-good ⌝ }
 {
-    0
 }
 
 // What was written into a file is read out of it.
-pub fn read_back() -> u8
+pub fn read_back()
     ensures { λ _. ⌜ Read-back ⌝ }
 {
-    0
 }

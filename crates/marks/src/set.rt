@@ -13,3 +13,4 @@ pub struct MarkSet {
 
 pub mod algebra;
 pub mod iter;
+pub mod parts;

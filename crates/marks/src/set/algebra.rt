@@ -37,19 +37,6 @@ impl MarkSet {
         MarkSet::empty().with(mark)
     }
 
-    pub fn words(self) -> [u32; 4]
-        ensures { λ r. ⌜ r ≡ self .words ⌝ }
-    {
-        self.words
-    }
-
-    // How many marks are in the set.
-    pub fn count(self) -> u32
-        ensures { λ r. ⌜ r ≡ card 128 (members self) ⌝ }
-    {
-        self.count
-    }
-
     pub fn is_empty(self) -> bool
         ensures { λ r. ⌜ r ≡ eqb (card 128 (members self)) 0 ⌝ }
     {
