@@ -35,7 +35,10 @@ pub(crate) fn judge(words: &[u32], wanted: Wanted) -> Result<Summary, FileRefusa
         }
     }
     if lacks_end(words) {
-        return Err(FileRefusal { fault: Fault::NoEnd, place: words.len() });
+        return Err(FileRefusal {
+            fault: Fault::NoEnd,
+            place: words.len(),
+        });
     }
     Ok(summary(words))
 }
@@ -44,7 +47,15 @@ pub(crate) fn judge(words: &[u32], wanted: Wanted) -> Result<Summary, FileRefusa
 fn summary(words: &[u32]) -> Summary
     ensures { λ r. ⌜ r ≡ said (now (words .entry)) ⌝ }
 {
-    let form = if is_measured(words) { Form::Measured } else { Form::Pairs };
+    let form = if is_measured(words) {
+        Form::Measured
+    } else {
+        Form::Pairs
+    };
     let head = word_at(words, 0);
-    Summary { form, marks: marks_of(head), k: k_of(head) }
+    Summary {
+        form,
+        marks: marks_of(head),
+        k: k_of(head),
+    }
 }

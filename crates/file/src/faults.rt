@@ -80,7 +80,8 @@ fn spare_set(word: u32) -> bool
     ensures { λ r. ⌜ r ≡ spare-set word ⌝ }
 {
     let kind = kind_of(word);
-    (kind == 1 && load_of(word) / 0x1_0000 != 0) || ((kind == 4 || kind == 6) && upper_of(word) != 0)
+    (kind == 1 && load_of(word) / 0x1_0000 != 0)
+        || ((kind == 4 || kind == 6) && upper_of(word) != 0)
 }
 
 fn in_range(head: u32) -> bool
@@ -103,14 +104,20 @@ fn comes_after(before: u32, word: u32) -> bool
 fn pair_fits(marks: u32, place: usize, before: u32, word: u32) -> bool
     ensures { λ r. ⌜ r ≡ pair-fits marks place before word ⌝ }
 {
-    upper_of(word) < lower_of(word) && lower_of(word) < marks && (place == 1 || comes_after(before, word))
+    upper_of(word) < lower_of(word)
+        && lower_of(word) < marks
+        && (place == 1 || comes_after(before, word))
 }
 
 // What an end at this place must say.
 fn end_load(words: &[u32], place: usize) -> usize
     ensures { λ r. ⌜ r ≡ end-load (now (words .entry)) place ⌝ }
 {
-    if is_measured(words) { marks_of(word_at(words, 0)) as usize } else { place.saturating_sub(1) }
+    if is_measured(words) {
+        marks_of(word_at(words, 0)) as usize
+    } else {
+        place.saturating_sub(1)
+    }
 }
 
 // The first fault of the word at a place, if it has any.

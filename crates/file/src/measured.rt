@@ -35,8 +35,14 @@ impl<'a> MeasuredSheet<'a> {
         requires { ⌜ i < 128 ⌝ ∗ ⌜ j < 128 ⌝ }
         ensures { λ r. ⌜ r ≡ alike (now (now (self .entry) .words)) i j ⌝ }
     {
-        let planned = point_at(self.words, 2 + 4 * i as usize).distance_squared(point_at(self.words, 2 + 4 * j as usize));
-        let seen = point_at(self.words, 4 + 4 * i as usize).distance_squared(point_at(self.words, 4 + 4 * j as usize));
+        let planned = point_at(self.words, 2 + 4 * i as usize).distance_squared(point_at(
+            self.words,
+            2 + 4 * j as usize,
+        ));
+        let seen = point_at(self.words, 4 + 4 * i as usize).distance_squared(point_at(
+            self.words,
+            4 + 4 * j as usize,
+        ));
         is_close(load_of(word_at(self.words, 1)), planned, seen)
     }
 }

@@ -25,10 +25,10 @@ zeros-hold ws j i z h = ap (λ w. bits-of w (i % 32)) (z (i / 32) (omega arith))
 pub zeros-all : (ws : List ℕ) (j : ℕ) → length ws ≤ j → Zeros ws j → holds ws ≡ none
 zeros-all ws j l z =
     fun-ext (λ i.
-      elim (cases-lt (i / 32) j) [
-        inl h ↦ zeros-hold ws j i z (omega arith)
+    elim (cases-lt (i / 32) j) [
+      | inl h ↦ zeros-hold ws j i z (omega arith)
       | inr h ↦ ap (λ w. bits-of w (i % 32)) (getD-past ws (i / 32) 0 (omega arith)) ∙ bits-of-none (i % 32)
-      ])
+    ])
 
 module _ (ws : List ℕ) (j first : ℕ) (at : first ≡ 32 * j) (fits : getD ws j 0 < 2 ^ 32) (some : getD ws j 0 ≡ 0 → ⊥) (z : Zeros ws j) where
   pub lowest-lt : trailingZeros 32 (getD ws j 0) < 32
@@ -47,10 +47,10 @@ module _ (ws : List ℕ) (j first : ℕ) (at : first ≡ 32 * j) (fits : getD ws
       let t = trailingZeros 32 (getD ws j 0) in
       let l = lowest-lt in
       elim (cases-lt i (32 * j)) [
-        inl k ↦ zeros-hold ws j i z k
-      | inr k ↦ (let d : i / 32 ≡ j = omega arith in
-          let m : i % 32 < t = omega arith in
-          ap (λ p. bits-of (getD ws p 0) (i % 32)) d ∙ trailing-below 32 (getD ws j 0) (i % 32) m)
+        | inl k ↦ zeros-hold ws j i z k
+        | inr k ↦ (let d : i / 32 ≡ j = omega arith in
+            let m : i % 32 < t = omega arith in
+            ap (λ p. bits-of (getD ws p 0) (i % 32)) d ∙ trailing-below 32 (getD ws j 0) (i % 32) m)
       ]
 
 -- four words of 0 hold nothing

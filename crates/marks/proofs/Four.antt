@@ -46,9 +46,9 @@ each-of-four t us vs a b c d z l m p q r s = fun-ext (λ i. place (i / 32) (i % 
     place (suc (suc (suc (suc j)))) k h =
         bits-of-none k
         ∙ sym (ap₂ t
-          (ap (λ w. bits-of w k) (getD-past us (suc (suc (suc (suc j)))) 0 (omega arith)) ∙ bits-of-none k)
-          (ap (λ w. bits-of w k) (getD-past vs (suc (suc (suc (suc j)))) 0 (omega arith)) ∙ bits-of-none k)
-          ∙ z)
+        (ap (λ w. bits-of w k) (getD-past us (suc (suc (suc (suc j)))) 0 (omega arith)) ∙ bits-of-none k)
+        (ap (λ w. bits-of w k) (getD-past vs (suc (suc (suc (suc j)))) 0 (omega arith)) ∙ bits-of-none k)
+        ∙ z)
 
 -- bit i set, as the program writes it
 abbrev pub bit-set : List ℕ → ℕ → List ℕ

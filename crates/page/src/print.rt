@@ -15,8 +15,18 @@ pub fn page(bytes: &[u8]) -> Page
     ensures short { λ r. ⌜ length (shown r) ≤ 512 ⌝ }
 {
     match verdict(bytes) {
-        Ok(summary) => numbers_line(b"MARKS ", summary.marks as usize, b" K ", summary.k as usize),
-        Err(refusal) => numbers_line(b"REFUSED ", refusal.number() as usize, b" WORD ", refusal.place()),
+        Ok(summary) => numbers_line(
+            b"MARKS ",
+            summary.marks as usize,
+            b" K ",
+            summary.k as usize,
+        ),
+        Err(refusal) => numbers_line(
+            b"REFUSED ",
+            refusal.number() as usize,
+            b" WORD ",
+            refusal.place(),
+        ),
     }
 }
 

@@ -19,6 +19,11 @@ pub(crate) fn store_words(bytes: &[u8], words: &mut [u32])
     ensures { λ _. ⌜ joined word-bytes (take (length (now (bytes .entry)) / 4) (now (words .exit))) ≡ now (bytes .entry) ⌝ }
 {
     for i in 0..bytes.len() / 4 {
-        words[i] = word_of(bytes[4 * i], bytes[4 * i + 1], bytes[4 * i + 2], bytes[4 * i + 3]);
+        words[i] = word_of(
+            bytes[4 * i],
+            bytes[4 * i + 1],
+            bytes[4 * i + 2],
+            bytes[4 * i + 3],
+        );
     }
 }

@@ -66,28 +66,31 @@ pub card-strict : (n : ℕ) (p q : Set) (u : ℕ) → p ⊆ q → u < n → p u 
 unfolding card
 card-strict zero p q u h l f t = omega arith
 card-strict (suc n) p q u h l f t =
-    elim (cases-lt u n)
-      [ inl m ↦ omega (arith, card-strict n p q u h m f t, bit-mono (p n) (q n) (h n))
+    elim (cases-lt u n) [
+      | inl m ↦ omega (arith, card-strict n p q u h m f t, bit-mono (p n) (q n) (h n))
       | inr m ↦
           let e : u ≡ n = omega arith in
-          omega (arith, card-mono n p q h, ap (λ i. one-if (p i)) e, ap (λ i. one-if (q i)) e, ap one-if f, ap one-if t) ]
+          omega (arith, card-mono n p q h, ap (λ i. one-if (p i)) e, ap (λ i. one-if (q i)) e, ap one-if f, ap one-if t)
+    ]
 
 pub card-only : (n u : ℕ) → u < n → card n (only u) ≡ 1
 unfolding card
 card-only zero u l = omega arith
 card-only (suc n) u l =
-    elim (cases-lt u n)
-      [ inl m ↦ let h = card-only n u m in grind (arith, tells)
-      | inr m ↦ let h = card-none n (only u) (λ i k. grind (arith, tells)) in grind (arith, tells) ]
+    elim (cases-lt u n) [
+      | inl m ↦ let h = card-only n u m in grind (arith, tells)
+      | inr m ↦ let h = card-none n (only u) (λ i k. grind (arith, tells)) in grind (arith, tells)
+    ]
 
 -- a set that counts something has a member
 pub card-some : (n : ℕ) (p : Set) → 0 < card n p → (i : ℕ) × (i < n) × (p i ≡ true)
 unfolding card
 card-some zero p h = absurd (lt-irrefl 0 h)
 card-some (suc n) p h =
-    elim (cases-bool (p n))
-      [ inl e ↦ (n, omega arith, e)
-      | inr e ↦ let r = card-some n p (omega (arith, ap one-if e)) in (r .0, omega arith, r .2) ]
+    elim (cases-bool (p n)) [
+      | inl e ↦ (n, omega arith, e)
+      | inr e ↦ let r = card-some n p (omega (arith, ap one-if e)) in (r .0, omega arith, r .2)
+    ]
 
 -- with and without the mark u
 pub card-less : (n : ℕ) (p : Set) (u : ℕ) → u < n → p u ≡ true → card n p ≡ 1 + card n (p ∖ only u)

@@ -48,12 +48,13 @@ words-of-words (suc m) p = (word-of-lt 32 p, words-of-words m (λ i. p (32 + i))
 pub holds-words-of : (m : ℕ) (p : Set) (i : ℕ) → i < m * 32 → holds (words-of m p) i ≡ p i
 holds-words-of zero p i h = let z : ⊥ = omega arith in absurd z
 holds-words-of (suc m) p i h =
-    elim (cases-lt i 32)
-      [ inl l ↦ holds-low (word-of 32 p) (words-of m (λ j. p (32 + j))) i l ∙ bits-of-word-of 32 p i l
+    elim (cases-lt i 32) [
+      | inl l ↦ holds-low (word-of 32 p) (words-of m (λ j. p (32 + j))) i l ∙ bits-of-word-of 32 p i l
       | inr l ↦
           let e : 32 + (i - 32) ≡ i = omega arith in
           ap (holds (words-of (suc m) p)) (sym e) ∙ holds-high (word-of 32 p) (words-of m (λ j. p (32 + j))) (i - 32)
-            ∙ holds-words-of m (λ j. p (32 + j)) (i - 32) (omega arith) ∙ ap p e ]
+          ∙ holds-words-of m (λ j. p (32 + j)) (i - 32) (omega arith) ∙ ap p e
+    ]
 
 -- the words are the set: two lists of words of only length that hold the same marks are the same
 pub words-ext : (us vs : List ℕ) → length us ≡ length vs → Words us → Words vs → ((i : ℕ) → holds us i ≡ holds vs i) → us ≡ vs
@@ -62,4 +63,4 @@ words-ext [] (v ∷ vs) l a b h = let z : ⊥ = omega arith in absurd z
 words-ext (u ∷ us) [] l a b h = let z : ⊥ = omega arith in absurd z
 words-ext (u ∷ us) (v ∷ vs) l a b h =
     ap₂ _∷_ (word-ext 32 u v (a .0) (b .0) (λ i k. sym (holds-low u us i k) ∙ h i ∙ holds-low v vs i k))
-      (words-ext us vs (omega arith) (a .1) (b .1) (λ i. sym (holds-high u us i) ∙ h (32 + i) ∙ holds-high v vs i))
+    (words-ext us vs (omega arith) (a .1) (b .1) (λ i. sym (holds-high u us i) ∙ h (32 + i) ∙ holds-high v vs i))

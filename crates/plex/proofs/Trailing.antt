@@ -31,13 +31,13 @@ unfolding trailingZeros
 trailing-below zero w b h = absurd (omega arith)
 trailing-below (suc k) w zero h =
     elim (cases-eq (w % 2) 0) [
-      inl e ↦ one-if-0 (bits-of w 0) (bits-of-zero w ∙ e)
-    | inr e ↦ (let z : ⊥ = omega (arith, trailing-odd k w (omega arith)) in absurd z)
+      | inl e ↦ one-if-0 (bits-of w 0) (bits-of-zero w ∙ e)
+      | inr e ↦ (let z : ⊥ = omega (arith, trailing-odd k w (omega arith)) in absurd z)
     ]
 trailing-below (suc k) w (suc b) h =
     elim (cases-eq (w % 2) 0) [
-      inl e ↦ bits-of-suc w b ∙ trailing-below k (w / 2) b (omega (arith, trailing-even k w e))
-    | inr e ↦ (let z : ⊥ = omega (arith, trailing-odd k w (omega arith)) in absurd z)
+      | inl e ↦ bits-of-suc w b ∙ trailing-below k (w / 2) b (omega (arith, trailing-even k w e))
+      | inr e ↦ (let z : ⊥ = omega (arith, trailing-odd k w (omega arith)) in absurd z)
     ]
 
 -- it is 1
@@ -45,10 +45,10 @@ pub trailing-at : (k w : ℕ) → trailingZeros k w < k → bits-of w (trailingZ
 trailing-at zero w h = absurd (omega arith)
 trailing-at (suc k) w h =
     elim (cases-eq (w % 2) 0) [
-      inl e ↦ (let t = trailing-even k w e in
-        ap (bits-of w) t ∙ bits-of-suc w (trailingZeros k (w / 2)) ∙ trailing-at k (w / 2) (omega arith))
-    | inr e ↦ (let o : w % 2 ≡ 1 = omega arith in
-        ap (bits-of w) (trailing-odd k w o) ∙ one-if-1 (bits-of w 0) (bits-of-zero w ∙ o))
+      | inl e ↦ (let t = trailing-even k w e in
+          ap (bits-of w) t ∙ bits-of-suc w (trailingZeros k (w / 2)) ∙ trailing-at k (w / 2) (omega arith))
+      | inr e ↦ (let o : w % 2 ≡ 1 = omega arith in
+          ap (bits-of w) (trailing-odd k w o) ∙ one-if-1 (bits-of w 0) (bits-of-zero w ∙ o))
     ]
 
 -- a word that is not 0 has one
@@ -56,6 +56,6 @@ pub trailing-lt : (k w : ℕ) → w < 2 ^ k → (w ≡ 0 → ⊥) → trailingZe
 trailing-lt zero w h n = absurd (n (omega arith))
 trailing-lt (suc k) w h n =
     elim (cases-eq (w % 2) 0) [
-      inl e ↦ omega (arith, trailing-even k w e, trailing-lt k (w / 2) (omega (arith, pow-suc 2 k)) (λ z. n (omega arith)))
-    | inr e ↦ omega (arith, trailing-odd k w (omega arith))
+      | inl e ↦ omega (arith, trailing-even k w e, trailing-lt k (w / 2) (omega (arith, pow-suc 2 k)) (λ z. n (omega arith)))
+      | inr e ↦ omega (arith, trailing-odd k w (omega arith))
     ]

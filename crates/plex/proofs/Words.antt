@@ -37,8 +37,14 @@ pub card-word : (k w : ℕ) → w < 2 ^ k → card k (bits-of w) ≡ ones w
 unfolding card ones
 card-word zero w h = let e : w ≡ 0 = omega arith in sym (ap ones e)
 card-word (suc k) w h =
-    omega (arith, card-first k (bits-of w), bits-of-zero w, ones-step w, card-word k (w / 2) (omega arith),
-      card-ext k (λ i. bits-of w (suc i)) (bits-of (w / 2)) (λ i _. bits-of-suc w i))
+    omega (
+      arith,
+      card-first k (bits-of w),
+      bits-of-zero w,
+      ones-step w,
+      card-word k (w / 2) (omega arith),
+      card-ext k (λ i. bits-of w (suc i)) (bits-of (w / 2)) (λ i _. bits-of-suc w i),
+    )
 
 low-and : (x y : ℕ) → eqb (bitAnd x y % 2) 1 ≡ (eqb (x % 2) 1 && eqb (y % 2) 1)
 low-and x y = let e = and-step x y in grind (arith, tells)
@@ -54,7 +60,6 @@ pub bits-of-or : (v w i : ℕ) → bits-of (bitOr v w) i ≡ (bits-of v i || bit
 unfolding bits-of
 bits-of-or v w i = ap (λ x. eqb (x % 2) 1) (or-shr v w i) ∙ low-or (v / 2 ^ i) (w / 2 ^ i)
 
-
 -- the first word, and the words after it
 pub holds-low : (w : ℕ) (ws : List ℕ) (i : ℕ) → i < 32 → holds (w ∷ ws) i ≡ bits-of w i
 holds-low w ws i h = let e : i / 32 ≡ 0 = omega arith in let f : i % 32 ≡ i = omega arith in rw (e, f)
@@ -67,9 +72,14 @@ unfolding card
 card-words [] h = refl
 card-words (w ∷ ws) h =
     let e : suc (length ws) * 32 ≡ 32 + length ws * 32 = omega arith in
-    rw e (omega (arith, card-cat 32 (length ws * 32) (holds (w ∷ ws)), card-words ws (h .1), card-word 32 w (h .0),
+    rw e (omega (
+      arith,
+      card-cat 32 (length ws * 32) (holds (w ∷ ws)),
+      card-words ws (h .1),
+      card-word 32 w (h .0),
       card-ext 32 (holds (w ∷ ws)) (bits-of w) (holds-low w ws),
-      card-ext (length ws * 32) (λ i. holds (w ∷ ws) (32 + i)) (holds ws) (λ i _. holds-high w ws i)))
+      card-ext (length ws * 32) (λ i. holds (w ∷ ws) (32 + i)) (holds ws) (λ i _. holds-high w ws i),
+    ))
 
 pub bits-of-none : (j : ℕ) → bits-of 0 j ≡ false
 unfolding bits-of
@@ -112,9 +122,10 @@ four a₀ a₁ a₂ a₃ b₀ b₁ b₂ b₃ = holds-and (a₀ ∷ a₁ ∷ a₂
 pub holds-put : (ws : List ℕ) (m v : ℕ) (q : Set) → m < length ws → ((b : ℕ) → b < 32 → bits-of v b ≡ q (m * 32 + b))
     → ((j : ℕ) → (j / 32 ≡ m → ⊥) → holds ws j ≡ q j) → (j : ℕ) → holds (set ws m v) j ≡ q j
 holds-put ws m v q l h k j =
-    elim (cases-eq (j / 32) m)
-      [ inl e ↦ rw (e, getD-set-same ws m v 0 l) (h (j % 32) (omega arith) ∙ ap q (omega arith))
-      | inr e ↦ rw (getD-set-other ws m (j / 32) v 0 e) (k j e) ]
+    elim (cases-eq (j / 32) m) [
+      | inl e ↦ rw (e, getD-set-same ws m v 0 l) (h (j % 32) (omega arith) ∙ ap q (omega arith))
+      | inr e ↦ rw (getD-set-other ws m (j / 32) v 0 e) (k j e)
+    ]
 
 holds-at : (ws : List ℕ) (m b : ℕ) → b < 32 → holds ws (m * 32 + b) ≡ bits-of (getD ws m 0) b
 holds-at ws m b h = let e : (m * 32 + b) / 32 ≡ m = omega arith in let f : (m * 32 + b) % 32 ≡ b = omega arith in rw (e, f)
@@ -123,8 +134,8 @@ pub holds-insert : (ws : List ℕ) (i : ℕ) → i / 32 < length ws → (j : ℕ
     → holds (set ws (i / 32) (bitOr (getD ws (i / 32) 0) (2 ^ (i % 32)))) j ≡ (holds ws ∪ only i) j
 holds-insert ws i l =
     holds-put ws (i / 32) (bitOr (getD ws (i / 32) 0) (2 ^ (i % 32))) (holds ws ∪ only i) l
-      (λ b h. bits-of-or (getD ws (i / 32) 0) (2 ^ (i % 32)) b ∙ cc (holds-at ws (i / 32) b h, bits-of-pow (i % 32) b, same b h))
-      (λ j h. grind (arith, tells))
+    (λ b h. bits-of-or (getD ws (i / 32) 0) (2 ^ (i % 32)) b ∙ cc (holds-at ws (i / 32) b h, bits-of-pow (i % 32) b, same b h))
+    (λ j h. grind (arith, tells))
   where
     same : (b : ℕ) → b < 32 → eqb b (i % 32) ≡ eqb (i / 32 * 32 + b) i
     same b h = grind (arith, tells)
@@ -133,9 +144,9 @@ pub holds-remove : (ws : List ℕ) (i : ℕ) → i / 32 < length ws → (j : ℕ
     → holds (set ws (i / 32) (bitAnd (getD ws (i / 32) 0) (2 ^ 32 - 1 - 2 ^ (i % 32)))) j ≡ (holds ws ∖ only i) j
 holds-remove ws i l =
     holds-put ws (i / 32) (bitAnd (getD ws (i / 32) 0) (2 ^ 32 - 1 - 2 ^ (i % 32))) (holds ws ∖ only i) l
-      (λ b h. bits-of-and (getD ws (i / 32) 0) (2 ^ 32 - 1 - 2 ^ (i % 32)) b
-        ∙ cc (holds-at ws (i / 32) b h, bits-of-not 32 (2 ^ (i % 32)) b (pow-below (i % 32) 32 (omega arith)) h, bits-of-pow (i % 32) b, same b h))
-      (λ j h. grind (arith, tells))
+    (λ b h. bits-of-and (getD ws (i / 32) 0) (2 ^ 32 - 1 - 2 ^ (i % 32)) b
+    ∙ cc (holds-at ws (i / 32) b h, bits-of-not 32 (2 ^ (i % 32)) b (pow-below (i % 32) 32 (omega arith)) h, bits-of-pow (i % 32) b, same b h))
+    (λ j h. grind (arith, tells))
   where
     same : (b : ℕ) → b < 32 → eqb b (i % 32) ≡ eqb (i / 32 * 32 + b) i
     same b h = grind (arith, tells)

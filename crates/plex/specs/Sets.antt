@@ -26,7 +26,6 @@ infixl 40 _∩_
 infixl 40 _∖_
 infixl 35 _∪_
 infix 30 _⊆_
-
 abbrev pub _∩_ : Set → Set → Set
 _∩_ s t i = s i && t i
 

@@ -4,29 +4,24 @@ ghost use Rattle.plex.specs.Laws.{Parts-are-plexes, Counting, Words-hold-sets,
 // Every part of a k-plex is a k-plex.
 pub fn parts_are_plexes()
     ensures { λ _. ⌜ Parts-are-plexes ⌝ }
-{
-}
+{}
 
 // How many marks two sets have together, and how many a set has with one mark more.
 pub fn counting_stands()
     ensures { λ _. ⌜ Counting ⌝ }
-{
-}
+{}
 
 // Words are determined by their marks, and have as many as their bits say.
 pub fn words_hold_sets()
     ensures { λ _. ⌜ Words-hold-sets ⌝ }
-{
-}
+{}
 
 // The rising list of a set has just its marks, in their order.
 pub fn lists_rise()
     ensures { λ _. ⌜ Rises ⌝ }
-{
-}
+{}
 
 // Two measured marks agree whichever is named first.
 pub fn sighted_both_ways()
     ensures { λ _. ⌜ Sighted-both-ways ⌝ }
-{
-}
+{}

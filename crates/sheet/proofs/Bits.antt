@@ -63,16 +63,16 @@ module _ (ws : List ℕ) (n i j : ℕ) (hi : i < n) (hj : j < n) (room : n * row
       let ws′ = bit-entered ws r i j in
       let in-row : q / 32 < r = bit-in-row n p q hp hq in
       elim (cases-eq (p * r + q / 32) at) [
-        inl e ↦ (let f = same-row p i (q / 32) (j / 32) r in-row (bit-in-row n i j hi hj) e in
-          let g : q / 32 ≡ j / 32 = omega (arith, ap (λ k. k * r) f) in
-          let new : getD ws′ (p * r + q / 32) 0 ≡ bitOr (getD ws at 0) (2 ^ (j % 32)) = ap (λ k. getD ws′ k 0) e ∙ getD-set-same ws at _ 0 here in
-          let old : getD ws (p * r + q / 32) 0 ≡ getD ws at 0 = ap (λ k. getD ws k 0) e in
-          bit-at ws′ r p q in-row ∙ ap (λ w. bits-of w (q % 32)) new
-          ∙ bits-of-or (getD ws at 0) (2 ^ (j % 32)) (q % 32)
-          ∙ ap₂ _||_ (ap (λ w. bits-of w (q % 32)) (sym old) ∙ sym (bit-at ws r p q in-row)) (bits-of-pow (j % 32) (q % 32) ∙ same p q f g))
-      | inr e ↦ (let old : getD ws′ (p * r + q / 32) 0 ≡ getD ws (p * r + q / 32) 0 = getD-set-other ws at (p * r + q / 32) _ 0 e in
-          bit-at ws′ r p q in-row ∙ ap (λ w. bits-of w (q % 32)) old ∙ sym (bit-at ws r p q in-row)
-          ∙ other (bit-of ws r p q) p q (λ f g. e (omega (arith, ap (λ k. k * r) f, ap (λ k. k / 32) g))))
+        | inl e ↦ (let f = same-row p i (q / 32) (j / 32) r in-row (bit-in-row n i j hi hj) e in
+            let g : q / 32 ≡ j / 32 = omega (arith, ap (λ k. k * r) f) in
+            let new : getD ws′ (p * r + q / 32) 0 ≡ bitOr (getD ws at 0) (2 ^ (j % 32)) = ap (λ k. getD ws′ k 0) e ∙ getD-set-same ws at _ 0 here in
+            let old : getD ws (p * r + q / 32) 0 ≡ getD ws at 0 = ap (λ k. getD ws k 0) e in
+            bit-at ws′ r p q in-row ∙ ap (λ w. bits-of w (q % 32)) new
+            ∙ bits-of-or (getD ws at 0) (2 ^ (j % 32)) (q % 32)
+            ∙ ap₂ _||_ (ap (λ w. bits-of w (q % 32)) (sym old) ∙ sym (bit-at ws r p q in-row)) (bits-of-pow (j % 32) (q % 32) ∙ same p q f g))
+        | inr e ↦ (let old : getD ws′ (p * r + q / 32) 0 ≡ getD ws (p * r + q / 32) 0 = getD-set-other ws at (p * r + q / 32) _ 0 e in
+            bit-at ws′ r p q in-row ∙ ap (λ w. bits-of w (q % 32)) old ∙ sym (bit-at ws r p q in-row)
+            ∙ other (bit-of ws r p q) p q (λ f g. e (omega (arith, ap (λ k. k * r) f, ap (λ k. k / 32) g))))
       ]
     where
       same : (p q : ℕ) → p ≡ i → q / 32 ≡ j / 32 → eqb (q % 32) (j % 32) ≡ (eqb p i && eqb q j)
@@ -89,5 +89,5 @@ cleared-at ws n p q hp hq =
     let zs = replicate (n * r) 0 in
     let k = bit-in-words n p q hp hq in
     let e : getD (zs ++ drop (n * r) ws) (p * r + q / 32) 0 ≡ 0 =
-        getD-append-left zs (drop (n * r) ws) 0 (p * r + q / 32) (omega (arith, length-replicate {A = ℕ} (n * r) 0)) ∙ getD-replicate (n * r) (p * r + q / 32) 0 0 k in
+    getD-append-left zs (drop (n * r) ws) 0 (p * r + q / 32) (omega (arith, length-replicate {A = ℕ} (n * r) 0)) ∙ getD-replicate (n * r) (p * r + q / 32) 0 0 k in
     bit-at (zs ++ drop (n * r) ws) r p q (bit-in-row n p q hp hq) ∙ ap (λ w. bits-of w (q % 32)) e ∙ bits-of-none (q % 32)

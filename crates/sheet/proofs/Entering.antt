@@ -40,9 +40,9 @@ module _ (ws ws′ : List ℕ) (n : ℕ) (few : n ≤ 128) (room : n * row-words
   pub begun-nothing : (i j : ℕ) → entered ws′ n i j ≡ false
   begun-nothing i j =
       agree-none (marks-held (length ws′) n) (both-bits ws′ (row-words n)) i j (λ p q hp hq.
-        let hp′ : p < n = omega (arith, begun-holding) in
-        let hq′ : q < n = omega (arith, begun-holding) in
-        ap (λ b. b && bit-of ws′ (row-words n) q p) (ap (λ xs. bit-of xs (row-words n) p q) cleared ∙ cleared-at ws n p q hp′ hq′))
+      let hp′ : p < n = omega (arith, begun-holding) in
+      let hq′ : q < n = omega (arith, begun-holding) in
+      ap (λ b. b && bit-of ws′ (row-words n) q p) (ap (λ xs. bit-of xs (row-words n) p q) cleared ∙ cleared-at ws n p q hp′ hq′))
 
 -- both bits of a pair
 both-entered : (x y x′ y′ : Bool) (i j p q : ℕ) → x′ ≡ ((x || (eqb p i && eqb q j)) || (eqb p j && eqb q i)) →
@@ -78,8 +78,8 @@ module _ (ws : List ℕ) (n i j : ℕ) (hi : i < marks-held (length ws) n) (hj :
       let hj′ = held-few (length ws) n j hj in
       ap (λ l. agree-by (marks-held l n) (both-bits ws′ r) p q) entered-length
       ∙ agree-more m (both-bits ws r) (both-bits ws′ r) i j p q hi hj apart (λ a b ha hb.
-        ap (λ xs. both-bits xs r a b) is
-        ∙ both-bits-entered ws n i j (h .0) (hj′ .0) (h .2) a b (held-few (length ws) n a ha .0) (held-few (length ws) n b hb .0))
+      ap (λ xs. both-bits xs r a b) is
+      ∙ both-bits-entered ws n i j (h .0) (hj′ .0) (h .2) a b (held-few (length ws) n a ha .0) (held-few (length ws) n b hb .0))
 
 -- a sealed sheet, which has the marks that the entry holds, has its agreement
 pub sealed-agrees : (ws : List ℕ) (n m : ℕ) → m ≡ marks-held (length ws) n → (i j : ℕ) →
@@ -87,4 +87,4 @@ pub sealed-agrees : (ws : List ℕ) (n m : ℕ) → m ≡ marks-held (length ws)
 sealed-agrees ws n m e i j =
     ap (λ x. agree-by x (both-bits ws (row-words x)) i j) e
     ∙ agree-same (marks-held (length ws) n) (both-bits ws (row-words (marks-held (length ws) n))) (both-bits ws (row-words n)) i j
-      (λ p q hp hq. ap (λ x. both-bits ws (row-words x) p q) (let h = held-few (length ws) n p hp in held-all (length ws) n (h .1) (h .2)))
+    (λ p q hp hq. ap (λ x. both-bits ws (row-words x) p q) (let h = held-few (length ws) n p hp in held-all (length ws) n (h .1) (h .2)))

@@ -15,8 +15,8 @@ part-set xs a k m v l p =
     let le : a ≤ a + m = omega arith in
     let sub : a + m - a ≡ m = omega arith in
     ap (λ (ys : List ℕ). take a xs ++ ys)
-      (sym (set-append-left (take k (drop a xs)) (drop k (drop a xs)) m v tl)
-      ∙ ap (λ (ys : List ℕ). set ys m v) (take-append-drop k (drop a xs)))
+    (sym (set-append-left (take k (drop a xs)) (drop k (drop a xs)) m v tl)
+    ∙ ap (λ (ys : List ℕ). set ys m v) (take-append-drop k (drop a xs)))
     ∙ ap (λ (i : ℕ). take a xs ++ set (drop a xs) i v) (sym sub)
     ∙ sym (set-append-right (take a xs) (drop a xs) a (a + m) v al le)
     ∙ ap (λ (ys : List ℕ). set ys (a + m) v) (take-append-drop a xs)

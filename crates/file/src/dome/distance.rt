@@ -14,7 +14,11 @@ fn coordinate_of(bits: u32) -> i32
     requires { ⌜ bits < 16384 ⌝ }
     ensures { λ r. ⌜ r ≡ coordinate bits ⌝ }
 {
-    if bits < 8192 { bits as i32 } else { bits as i32 - 16384 }
+    if bits < 8192 {
+        bits as i32
+    } else {
+        bits as i32 - 16384
+    }
 }
 
 // The square of the difference of two coordinates.
@@ -32,14 +36,20 @@ impl Point {
     pub(crate) fn from_words(xy: u32, z: u32) -> Point
         ensures { λ r. ⌜ meant r ≡ point-of xy z ⌝ }
     {
-        Point { x: coordinate_of(upper_of(xy)), y: coordinate_of(lower_of(xy)), z: coordinate_of(lower_of(z)) }
+        Point {
+            x: coordinate_of(upper_of(xy)),
+            y: coordinate_of(lower_of(xy)),
+            z: coordinate_of(lower_of(z)),
+        }
     }
 
     // The square of the distance between two points.
     pub(crate) fn distance_squared(self, other: Point) -> u32
         ensures { λ r. ⌜ r ≡ distance² (meant self) (meant other) ⌝ }
     {
-        square_of_gap(self.x, other.x) + square_of_gap(self.y, other.y) + square_of_gap(self.z, other.z)
+        square_of_gap(self.x, other.x)
+            + square_of_gap(self.y, other.y)
+            + square_of_gap(self.z, other.z)
     }
 }
 

@@ -19,14 +19,20 @@ impl MarkSet {
     pub fn from_words(words: [u32; 4]) -> MarkSet
         ensures { λ r. ⌜ r .words ≡ words ⌝ }
     {
-        let count = words[0].count_ones() + words[1].count_ones() + words[2].count_ones() + words[3].count_ones();
+        let count = words[0].count_ones()
+            + words[1].count_ones()
+            + words[2].count_ones()
+            + words[3].count_ones();
         MarkSet { words, count }
     }
 
     pub fn empty() -> MarkSet
         ensures { λ r. ⌜ members r ≡ none ⌝ }
     {
-        MarkSet { words: [0; 4], count: 0 }
+        MarkSet {
+            words: [0; 4],
+            count: 0,
+        }
     }
 
     // The mark alone; nothing where the number is 128 or more.
@@ -60,7 +66,10 @@ impl MarkSet {
         }
         let mut words = self.words;
         words[mark as usize / 32] |= 1 << (mark % 32);
-        MarkSet { words, count: self.count + 1 }
+        MarkSet {
+            words,
+            count: self.count + 1,
+        }
     }
 
     pub fn without(self, mark: u32) -> MarkSet
@@ -71,7 +80,10 @@ impl MarkSet {
         }
         let mut words = self.words;
         words[mark as usize / 32] &= !(1 << (mark % 32));
-        MarkSet { words, count: self.count - 1 }
+        MarkSet {
+            words,
+            count: self.count - 1,
+        }
     }
 
     // The marks of both sets.
@@ -98,7 +110,12 @@ impl MarkSet {
     {
         let a = self.words;
         let b = other.words;
-        MarkSet::from_words([and_not(a[0], b[0]), and_not(a[1], b[1]), and_not(a[2], b[2]), and_not(a[3], b[3])])
+        MarkSet::from_words([
+            and_not(a[0], b[0]),
+            and_not(a[1], b[1]),
+            and_not(a[2], b[2]),
+            and_not(a[3], b[3]),
+        ])
     }
 
     // The mark with the lowest number.

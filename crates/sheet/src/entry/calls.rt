@@ -51,7 +51,11 @@ fn clear(part: &mut [u32])
 fn held(room: usize, marks: u32) -> u32
     ensures { λ r. ⌜ r ≡ marks-held room marks ⌝ }
 {
-    if marks <= 128 && marks as usize * words_in_row(marks) <= room { marks } else { 0 }
+    if marks <= 128 && marks as usize * words_in_row(marks) <= room {
+        marks
+    } else {
+        0
+    }
 }
 
 impl<'a> Entry<'a> {
@@ -61,11 +65,17 @@ impl<'a> Entry<'a> {
         ensures lent { λ r. ⌜ elim r [ Ok e ↦ name (e .words) ≡ name (words .entry) | Err b ↦ name (b .words) ≡ name (words .entry) ] ⌝ }
     {
         if marks > 128 {
-            return Err(NotBegun { refusal: EntryRefusal::TooManyMarks, words });
+            return Err(NotBegun {
+                refusal: EntryRefusal::TooManyMarks,
+                words,
+            });
         }
         let rows = marks as usize * words_in_row(marks);
         if words.len() < rows {
-            return Err(NotBegun { refusal: EntryRefusal::TooFewWords, words });
+            return Err(NotBegun {
+                refusal: EntryRefusal::TooFewWords,
+                words,
+            });
         }
         clear(&mut words[0..rows]);
         Ok(Entry { words, marks })

@@ -20,13 +20,13 @@ returns c =
     let i = c .args .i in
     let j = c .args .j in
     let planned = c .distance-squared-planned .ensures
-      ∙ ap₂ distance²
-        (c .point-at .ensures ∙ second ws (2 + 4 * i) (3 + 4 * i) (omega arith))
-        (c .point-at-2 .ensures ∙ second ws (2 + 4 * j) (3 + 4 * j) (omega arith)) in
+    ∙ ap₂ distance²
+    (c .point-at .ensures ∙ second ws (2 + 4 * i) (3 + 4 * i) (omega arith))
+    (c .point-at-2 .ensures ∙ second ws (2 + 4 * j) (3 + 4 * j) (omega arith)) in
     let seen = c .distance-squared-seen .ensures
-      ∙ ap₂ distance²
-        (c .point-at-3 .ensures ∙ second ws (4 + 4 * i) (5 + 4 * i) (omega arith))
-        (c .point-at-4 .ensures ∙ second ws (4 + 4 * j) (5 + 4 * j) (omega arith)) in
+    ∙ ap₂ distance²
+    (c .point-at-3 .ensures ∙ second ws (4 + 4 * i) (5 + 4 * i) (omega arith))
+    (c .point-at-4 .ensures ∙ second ws (4 + 4 * j) (5 + 4 * j) (omega arith)) in
     let tolerance = c .load-of .ensures ∙ ap load (c .word-at .ensures) in
     c .is-close .ensures ∙ ap₂ (close-enough (c .load-of .result)) planned seen
     ∙ ap (λ t. close-enough t (distance² (sighting-at ws i .planned) (sighting-at ws j .planned)) (distance² (sighting-at ws i .seen) (sighting-at ws j .seen))) tolerance

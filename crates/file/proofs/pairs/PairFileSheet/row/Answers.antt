@@ -23,12 +23,12 @@ loop-word-again c =
     let i = c .args .i in
     let more = named-more ws p n i (c .loop-word-test .taken) in
     elim (c .match-partner .came) [
-      in-Some w ↦
-        (let just = w .in-Some .ensures tt in
-        ap members (w .row-is) ∙ w .with-row .ensures .inside (just .0) ∙ ap₂ _∪_ (c .loop-word .inv) (sym (just .1)) ∙ sym more)
-    | in-rest w ↦
-        (let nothing = w .in-rest .ensures tt in
-        ap members (w .row-is) ∙ c .loop-word .inv ∙ sym (more ∙ or-none (agree-by n (names (take p ws)) i) _ nothing))
+      | in-Some w ↦
+          (let just = w .in-Some .ensures tt in
+          ap members (w .row-is) ∙ w .with-row .ensures .inside (just .0) ∙ ap₂ _∪_ (c .loop-word .inv) (sym (just .1)) ∙ sym more)
+      | in-rest w ↦
+          (let nothing = w .in-rest .ensures tt in
+          ap members (w .row-is) ∙ c .loop-word .inv ∙ sym (more ∙ or-none (agree-by n (names (take p ws)) i) _ nothing))
     ]
 
 pub returns : need.returns

@@ -16,7 +16,7 @@ returns c =
     let m : length vs ≡ 4 = search needs in
     ap holds (c .from-words .ensures)
     ∙ each-of-four _&&_ us vs _ _ _ _ refl l m
-      (λ i _. bits-of-and (getD us 0 0) (getD vs 0 0) i)
-      (λ i _. bits-of-and (getD us 1 0) (getD vs 1 0) i)
-      (λ i _. bits-of-and (getD us 2 0) (getD vs 2 0) i)
-      (λ i _. bits-of-and (getD us 3 0) (getD vs 3 0) i)
+    (λ i _. bits-of-and (getD us 0 0) (getD vs 0 0) i)
+    (λ i _. bits-of-and (getD us 1 0) (getD vs 1 0) i)
+    (λ i _. bits-of-and (getD us 2 0) (getD vs 2 0) i)
+    (λ i _. bits-of-and (getD us 3 0) (getD vs 3 0) i)

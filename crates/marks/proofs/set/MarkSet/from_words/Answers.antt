@@ -12,13 +12,22 @@ add-count c =
 
 pub add-count-2 : need.add-count-2
 add-count-2 c =
-    omega (arith, ones-le 32 (getD (c .args .words) 0 0) (c .element-fits .fits), ones-le 32 (getD (c .args .words) 1 0) (c .element-fits2 .fits),
-      ones-le 32 (getD (c .args .words) 2 0) (c .element-fits3 .fits))
+    omega (
+      arith,
+      ones-le 32 (getD (c .args .words) 0 0) (c .element-fits .fits),
+      ones-le 32 (getD (c .args .words) 1 0) (c .element-fits2 .fits),
+      ones-le 32 (getD (c .args .words) 2 0) (c .element-fits3 .fits),
+    )
 
 pub add-count-3 : need.add-count-3
 add-count-3 c =
-    omega (arith, ones-le 32 (getD (c .args .words) 0 0) (c .element-fits .fits), ones-le 32 (getD (c .args .words) 1 0) (c .element-fits2 .fits),
-      ones-le 32 (getD (c .args .words) 2 0) (c .element-fits3 .fits), ones-le 32 (getD (c .args .words) 3 0) (c .element-fits4 .fits))
+    omega (
+      arith,
+      ones-le 32 (getD (c .args .words) 0 0) (c .element-fits .fits),
+      ones-le 32 (getD (c .args .words) 1 0) (c .element-fits2 .fits),
+      ones-le 32 (getD (c .args .words) 2 0) (c .element-fits3 .fits),
+      ones-le 32 (getD (c .args .words) 3 0) (c .element-fits4 .fits),
+    )
 
 pub ghost-result : need.ghost-result
 ghost-result c =

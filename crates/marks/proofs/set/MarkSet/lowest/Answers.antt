@@ -19,10 +19,11 @@ pub returns-then-word-ne0 : need.returns-then-word-ne0
 returns-then-word-ne0 c =
     let w = c .loop-word in
     let ws = c .args .self .words in
-    let f = c .loop-word-test .element-fits .fits in
-    (omega (arith, lowest-lt ws (w .word-index) (w .first) (w .inv .0) f (c .if-word-ne0 .taken) (w .inv .1), w .inv .0),
-    lowest-held ws (w .word-index) (w .first) (w .inv .0) f (c .if-word-ne0 .taken) (w .inv .1),
-    lowest-first ws (w .word-index) (w .first) (w .inv .0) f (c .if-word-ne0 .taken) (w .inv .1))
+    let f = c .loop-word-test .element-fits .fits in (
+      omega (arith, lowest-lt ws (w .word-index) (w .first) (w .inv .0) f (c .if-word-ne0 .taken) (w .inv .1), w .inv .0),
+      lowest-held ws (w .word-index) (w .first) (w .inv .0) f (c .if-word-ne0 .taken) (w .inv .1),
+      lowest-first ws (w .word-index) (w .first) (w .inv .0) f (c .if-word-ne0 .taken) (w .inv .1),
+    )
 
 pub add-first : need.add-first
 add-first c = omega (arith, c .loop-word .inv .0)

@@ -14,4 +14,4 @@ returns c =
     let m : length vs ≡ 4 = search needs in
     ap holds (c .from-words .ensures)
     ∙ each-of-four (λ a b. a && not b) us vs _ _ _ _ refl l m
-      (c .and-not .ensures) (c .and-not-2 .ensures) (c .and-not-3 .ensures) (c .and-not-4 .ensures)
+    (c .and-not .ensures) (c .and-not-2 .ensures) (c .and-not-3 .ensures) (c .and-not-4 .ensures)

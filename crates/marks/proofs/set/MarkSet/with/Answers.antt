@@ -16,9 +16,9 @@ returns-then-mark-ge128 c =
     record {
       inside = λ h.
           elim (c .then-mark-ge128 .came) [
-            then-mark-ge128·by·then-mark-ge128 w ↦ absurd (omega arith)
-          | then-mark-ge128·by·else-mark-ge128·then-has w ↦
-              with-there s (c .args .mark) (sym (w .has .ensures) ∙ w .if-has .taken)
+            | then-mark-ge128·by·then-mark-ge128 w ↦ absurd (omega arith)
+            | then-mark-ge128·by·else-mark-ge128·then-has w ↦
+                with-there s (c .args .mark) (sym (w .has .ensures) ∙ w .if-has .taken)
           ];
       outside = λ _. refl;
     }
@@ -30,10 +30,15 @@ pub ghost-result : need.ghost-result
 ghost-result c =
     let ws = c .args .self .words in
     let i = c .args .mark in
-    let l : length ws ≡ 4 = search needs in
-    (omega (arith, c .args .self .counted, ap (card 128) (holds-bit-set ws i l (c .if-mark-ge128 .left)),
-      card-more 128 (holds ws) i (c .if-mark-ge128 .left) (sym (c .if-has .ensures tt))),
-    tt)
+    let l : length ws ≡ 4 = search needs in (
+      omega (
+        arith,
+        c .args .self .counted,
+        ap (card 128) (holds-bit-set ws i l (c .if-mark-ge128 .left)),
+        card-more 128 (holds ws) i (c .if-mark-ge128 .left) (sym (c .if-has .ensures tt)),
+      ),
+      tt,
+    )
 
 pub returns : need.returns
 returns c =

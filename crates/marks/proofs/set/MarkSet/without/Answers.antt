@@ -16,8 +16,8 @@ returns-then-mark-ge128 c =
     let i = c .args .mark in
     let l : length ws ≡ 4 = search needs in
     elim (c .then-mark-ge128 .came) [
-      then-mark-ge128·by·then-mark-ge128 w ↦ without-there (holds ws) i (holds-past ws l i (w .if-mark-ge128 .taken))
-    | then-mark-ge128·by·else-mark-ge128·then-not-has w ↦ without-there (holds ws) i (sym (w .has .ensures) ∙ w .if-not-has .taken)
+      | then-mark-ge128·by·then-mark-ge128 w ↦ without-there (holds ws) i (holds-past ws l i (w .if-mark-ge128 .taken))
+      | then-mark-ge128·by·else-mark-ge128·then-not-has w ↦ without-there (holds ws) i (sym (w .has .ensures) ∙ w .if-not-has .taken)
     ]
 
 pub sub-result : need.sub-result
@@ -29,10 +29,15 @@ pub ghost-result : need.ghost-result
 ghost-result c =
     let ws = c .args .self .words in
     let i = c .args .mark in
-    let l : length ws ≡ 4 = search needs in
-    (omega (arith, c .args .self .counted, ap (card 128) (holds-bit-cleared ws i l (c .if-mark-ge128 .left)),
-      card-less 128 (holds ws) i (c .if-mark-ge128 .left) (sym (c .if-not-has .ensures tt))),
-    tt)
+    let l : length ws ≡ 4 = search needs in (
+      omega (
+        arith,
+        c .args .self .counted,
+        ap (card 128) (holds-bit-cleared ws i l (c .if-mark-ge128 .left)),
+        card-less 128 (holds ws) i (c .if-mark-ge128 .left) (sym (c .if-not-has .ensures tt)),
+      ),
+      tt,
+    )
 
 pub returns : need.returns
 returns c =

@@ -19,7 +19,7 @@ returns c =
     let one = c .enter-bit .ensures in
     let two = c .enter-bit-2 .ensures in
     let is = two .words ∙ ap (λ xs. bit-entered xs (row-words (c .enter-bit .last .self .marks)) j i) (one .words)
-      ∙ ap (λ m. bit-entered (bit-entered ws (row-words n) i j) (row-words m) j i) (one .marks) in
+    ∙ ap (λ m. bit-entered (bit-entered ws (row-words n) i j) (row-words m) j i) (one .marks) in
     record {
       marks = two .marks ∙ one .marks;
       enters = record {

@@ -19,11 +19,11 @@ loop-j-again g c =
     let s = m .agrees (c .args .i) in
     let j = c .loop-j .j in
     elim (c .if-agree .came) [
-      then-agree w ↦
-        (let k : j < 128 = omega (arith, c .marks-j-end .ensures, m .few) in
-        ap members (w .row-is) ∙ w .with-row .ensures .inside k ∙ ap (λ t. t ∪ only j) (c .loop-j .inv)
-        ∙ below-takes s j (sym (c .agree .ensures) ∙ w .if-agree .taken))
-    | else-agree w ↦ ap members (w .row-is) ∙ c .loop-j .inv ∙ below-skips s j (sym (c .agree .ensures) ∙ w .if-agree .left)
+      | then-agree w ↦
+          (let k : j < 128 = omega (arith, c .marks-j-end .ensures, m .few) in
+          ap members (w .row-is) ∙ w .with-row .ensures .inside k ∙ ap (λ t. t ∪ only j) (c .loop-j .inv)
+          ∙ below-takes s j (sym (c .agree .ensures) ∙ w .if-agree .taken))
+      | else-agree w ↦ ap members (w .row-is) ∙ c .loop-j .inv ∙ below-skips s j (sym (c .agree .ensures) ∙ w .if-agree .left)
     ]
 
 pub returns : need.returns
@@ -34,7 +34,7 @@ returns g c =
     let end : m .marks ≤ j = omega (arith, c .marks-j-end .ensures) in
     ap holds (c .words .ensures) ∙ c .loop-j .inv
     ∙ below-all (m .agrees i) j (λ q t.
-      elim (cases-lt q j) [
-        inl h ↦ h
+    elim (cases-lt q j) [
+      | inl h ↦ h
       | inr h ↦ absurd (both-ways (m .agrees i q) (m .symmetric i q ∙ m .inside q i (omega arith)) t)
-      ])
+    ])
