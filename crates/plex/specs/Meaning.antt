@@ -5,7 +5,7 @@ use Prim.Native.Nat.{ℕ, _≤_}
 use native.Mathlib.Nat.{le-refl}
 use lib.Dec.{ltb}
 use Rattle.std.proofs.shelf.Tests.{le-ltb}
-use Rattle.plex.specs.Sets.{Agreement}
+use Rattle.plex.specs.Sets.{Agreement, struck}
 
 pub record Meaning : Type 0 where
   -- the marks are the numbers below this one
@@ -34,3 +34,8 @@ meaning-by n few r = record {
       ap (λ b. (ltb i n && ltb i n) && ((b && r i i) || (b && r i i))) (le-ltb i i (le-refl i)) ∙ and-false (ltb i n && ltb i n);
   inside = λ i j h. ap (λ b. (b && ltb j n) && ((ltb i j && r i j) || (ltb j i && r j i))) (le-ltb i n h);
 }
+
+-- a sheet of which the agreement of marks i and j was struck, if it was there, and nothing else
+pub record Struck (before : Meaning) (i j : ℕ) (after : Meaning) : Type 0 where
+  pub marks : after .marks ≡ before .marks
+  pub agrees : after .agrees ≡ struck i j (before .agrees)

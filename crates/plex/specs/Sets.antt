@@ -47,6 +47,14 @@ only u i = eqb i u
 abbrev pub below : ℕ → Set
 below n i = ltb i n
 
+-- i and j are the pair u and v, in either order
+abbrev pub is-pair : ℕ → ℕ → Agreement
+is-pair u v i j = (eqb i u && eqb j v) || (eqb i v && eqb j u)
+
+-- an agreement without that of u and v
+abbrev pub struck : ℕ → ℕ → Agreement → Agreement
+struck u v agrees i j = agrees i j && not (is-pair u v i j)
+
 abbrev pub _⊆_ : Set → Set → Type 0
 s ⊆ t = (i : ℕ) → s i ≡ true → t i ≡ true
 

@@ -9,10 +9,10 @@ use lib.Dec.{eqb, leb, ltb}
 use lib.ListN.{length, drop, replicate, length-set, length-append, length-replicate, length-drop}
 use Rattle.std.proofs.shelf.Ways.{tells}
 use Rattle.std.proofs.shelf.Tests.{cases-lt}
-use Rattle.plex.specs.Sets.{Agreement}
+use Rattle.plex.specs.Sets.{Agreement, is-pair}
 use Rattle.plex.specs.Meaning.{agree-by}
 use Rattle.sheet.specs.Rows.{row-words, bit-of, bit-entered, both-bits, marks-held}
-use Rattle.sheet.specs.Entering.{entered, is-pair}
+use Rattle.sheet.specs.Entering.{entered}
 use Rattle.sheet.proofs.Bits.{held-few, held-all, bit-entered-at, cleared-at}
 
 -- a relation that holds between no two marks gives no agreement

@@ -8,7 +8,7 @@ use lib.Dec.{eqb}
 use lib.ListN.{length, drop, replicate}
 use Rattle.std.specs.declared.result.Result.{Result}
 use Rattle.std.specs.declared.result.Result.the-variants.{Ok, Err}
-use Rattle.plex.specs.Sets.{Agreement}
+use Rattle.plex.specs.Sets.{Agreement, is-pair}
 use Rattle.plex.specs.Meaning.{agree-by}
 use Rattle.sheet.specs.Rows.{row-words, bit-entered, both-bits, marks-held}
 use Rattle.sheet.specs.declared.entry.Entry.{Entry}
@@ -52,10 +52,6 @@ Not-begun ws n SameMark = ⊥
 abbrev pub Begins : List ℕ → ℕ → Result Entry NotBegun → Type 0
 Begins ws n (Ok e) = Begun ws n e
 Begins ws n (Err b) = Not-begun ws n (b .refusal) × (now (b .words) ≡ ws)
-
--- i and j are the pair u and v, in either order
-abbrev pub is-pair : ℕ → ℕ → Agreement
-is-pair u v i j = (eqb i u && eqb j v) || (eqb i v && eqb j u)
 
 -- both bits are set, and so just this agreement is there besides those that were
 pub record Entered (ws : List ℕ) (n i j v : ℕ) (ws′ : List ℕ) : Type 0 where

@@ -1,6 +1,8 @@
 // What every kind of sheet answers.
 ghost use mathlib.Core.Path.{_≡_};
-ghost use Rattle.plex.specs.Meaning.{Meaning};
+ghost use mathlib.Core.List.{List};
+ghost use Prim.Native.Nat.{ℕ};
+ghost use Rattle.plex.specs.Meaning.{Meaning, Struck};
 ghost use Rattle.plex.specs.Words.{holds};
 use marks::set::MarkSet;
 
@@ -29,4 +31,16 @@ pub trait Sheet {
         }
         row.words()
     }
+}
+
+// A sheet that can be struck is a sheet too.
+pub trait Strike: Sheet {
+    // What striking never changes.
+    ghost lasting: { Self → List ℕ };
+
+    // Removes the agreement of marks i and j if it is there, and says whether it was; nothing else changes.
+    fn strike(&mut self, i: u32, j: u32) -> bool
+        ensures said { λ r. ⌜ r ≡ Self·Sheet .meaning (now (self .entry)) .agrees i j ⌝ }
+        ensures struck { λ _. ⌜ Struck (Self·Sheet .meaning (now (self .entry))) i j (Self·Sheet .meaning (now (self .exit))) ⌝ }
+        ensures lasts { λ _. ⌜ lasting (now (self .exit)) ≡ lasting (now (self .entry)) ⌝ };
 }

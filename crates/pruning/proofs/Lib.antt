@@ -1,0 +1,3 @@
+pub mod Striking
+pub mod Rounds
+pub mod Laws

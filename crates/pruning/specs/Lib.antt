@@ -1,0 +1,3 @@
+pub mod Pruned
+pub mod Rounds
+pub mod Laws
