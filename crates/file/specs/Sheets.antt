@@ -1,6 +1,6 @@
 -- What the sheets mean that read a file where its words stand. Assumes nothing.
 use mathlib.Core.Path.{_≡_}
-use mathlib.Core.Bool.{Bool}
+use mathlib.Core.Bool.{true}
 use mathlib.Core.List.{List}
 use Prim.Native.Nat.{ℕ, _≤_, min}
 use native.Mathlib.Nat.{min-le-right}
@@ -9,13 +9,15 @@ use lib.ListN.{getD}
 use lib.Dec.{eqb}
 use Rattle.std.specs.declared.result.Result.{Result}
 use Rattle.std.specs.declared.result.Result.the-variants.{Ok, Err}
+use Rattle.std.specs.Results.{isOk}
 use Rattle.plex.specs.Sets.{Set, Agreement, among}
 use Rattle.plex.specs.Meaning.{Meaning, agree-by, meaning-by}
 use Rattle.plex.specs.Distance.{Sighting, sighted-alike}
 use Rattle.fileword.specs.Layout.{load, pair-word}
-use Rattle.fileword.specs.Files.{Pair, Pair-file, Measured-file, named-in}
+use Rattle.fileword.specs.Files.{Pair, Pair-file, Measured-file, Good, named-in}
 use Rattle.fileword.specs.Faults.{at, marks-said, Refused}
 use Rattle.fileword.specs.Laws.{sighting-at}
+use Rattle.fileword.specs.declared.files.Form.the-variants.{Pairs, Measured}
 use Rattle.fileword.specs.declared.files.FileRefusal.{FileRefusal}
 use Rattle.fileword.specs.declared.files.Wanted.the-variants.{OnlyPairs, OnlyMeasured}
 use Rattle.file.specs.declared.pairs.PairSheet.{PairSheet}
@@ -60,6 +62,10 @@ abbrev pub Pairs-read : List ℕ → Result PairSheet FileRefusal → Type 0
 Pairs-read ws (Ok s) = Reads-pairs ws s
 Pairs-read ws (Err e) = Refused OnlyPairs ws e
 
+-- every good pair file is read
+abbrev pub Pairs-accepted : List ℕ → Result PairSheet FileRefusal → Type 0
+Pairs-accepted ws r = (n k : ℕ) → Good ws (record { form = Pairs; marks = n; k = k }) → isOk r ≡ true
+
 -- a measured sheet was made of a good measured file: its marks are the file's, and two marks agree as their sightings say
 pub record Reads-measured (ws : List ℕ) (s : MeasuredSheet) : Type 0 where
   pub words : now (s .words) ≡ ws
@@ -78,3 +84,7 @@ pub record Reads-measured (ws : List ℕ) (s : MeasuredSheet) : Type 0 where
 abbrev pub Measured-read : List ℕ → Result MeasuredSheet FileRefusal → Type 0
 Measured-read ws (Ok s) = Reads-measured ws s
 Measured-read ws (Err e) = Refused OnlyMeasured ws e
+
+-- every good measured file is read
+abbrev pub Measured-accepted : List ℕ → Result MeasuredSheet FileRefusal → Type 0
+Measured-accepted ws r = (n k : ℕ) → Good ws (record { form = Measured; marks = n; k = k }) → isOk r ≡ true

@@ -2,7 +2,6 @@
 ghost use mathlib.Core.Path.{_≡_};
 ghost use Prim.Native.Nat.{_<_};
 ghost use lib.ListN.{length};
-ghost use Rattle.fileword.specs.Layout.{head-marks};
 ghost use Rattle.fileword.specs.Faults.{at, marks-said, measured, may-begin, in-measured, in-pairs, may-stand, spare-set, in-range, comes-after, pair-fits, end-load, lacks-end};
 ghost use Rattle.file.specs.Finding.{Finds};
 use fileword::files::Fault;

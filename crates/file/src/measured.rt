@@ -5,7 +5,7 @@ ghost use denote.Ref.{now};
 ghost use Rattle.fileword.specs.Faults.{at};
 ghost use Rattle.fileword.specs.Layout.{point-of};
 ghost use Rattle.file.specs.Points.{meant};
-ghost use Rattle.file.specs.Sheets.{alike, measured-meaning, Measured-read};
+ghost use Rattle.file.specs.Sheets.{alike, measured-meaning, Measured-read, Measured-accepted};
 use crate::check::judge;
 use crate::dome::Point;
 use crate::dome::distance::is_close;
@@ -24,10 +24,13 @@ pub struct MeasuredSheet<'a> {
 impl<'a> MeasuredSheet<'a> {
     // The sheet of a measured file, which is checked first.
     pub fn read(words: &'a [u32]) -> Result<MeasuredSheet<'a>, FileRefusal>
-        ensures { λ r. ⌜ Measured-read (now (words .entry)) r ⌝ }
+        ensures reads { λ r. ⌜ Measured-read (now (words .entry)) r ⌝ }
+        ensures accepts { λ r. ⌜ Measured-accepted (now (words .entry)) r ⌝ }
     {
-        judge(words, Wanted::OnlyMeasured)?;
-        Ok(MeasuredSheet { words })
+        match judge(words, Wanted::OnlyMeasured) {
+            Ok(_) => Ok(MeasuredSheet { words }),
+            Err(refusal) => Err(refusal),
+        }
     }
 
     // Whether two marks' planned points are as far from one another as their seen points, up to the tolerance.

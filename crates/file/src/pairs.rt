@@ -2,7 +2,7 @@
 ghost use mathlib.Core.Path.{_≡_};
 ghost use Prim.Native.Nat.{_≤_, _<_};
 ghost use denote.Ref.{now};
-ghost use Rattle.file.specs.Sheets.{names, pair-meaning, paired, Pairs-read};
+ghost use Rattle.file.specs.Sheets.{names, pair-meaning, paired, Pairs-read, Pairs-accepted};
 ghost use Rattle.file.specs.Pairing.{Is-just};
 use crate::check::judge;
 use crate::faults::word_at;
@@ -24,10 +24,13 @@ pub struct PairSheet<'a> {
 impl<'a> PairSheet<'a> {
     // The sheet of a pair file, which is checked first.
     pub fn read(words: &'a [u32]) -> Result<PairSheet<'a>, FileRefusal>
-        ensures { λ r. ⌜ Pairs-read (now (words .entry)) r ⌝ }
+        ensures reads { λ r. ⌜ Pairs-read (now (words .entry)) r ⌝ }
+        ensures accepts { λ r. ⌜ Pairs-accepted (now (words .entry)) r ⌝ }
     {
-        judge(words, Wanted::OnlyPairs)?;
-        Ok(PairSheet { words })
+        match judge(words, Wanted::OnlyPairs) {
+            Ok(_) => Ok(PairSheet { words }),
+            Err(refusal) => Err(refusal),
+        }
     }
 
     // Whether the file names the pair of marks.

@@ -5,13 +5,14 @@ ghost use lib.ListN.{length};
 ghost use mathlib.Core.List.{[], _∷_, _++_};
 ghost use Rattle.std.specs.Written.{decimal};
 ghost use Rattle.text.specs.Shown.{shown};
-ghost use Rattle.page.specs.Verdicts.{Printed};
+ghost use Rattle.page.specs.Verdicts.{Printed, One-verdict};
 use crate::verdict::verdict;
 use text::Page;
 
 // The line that is printed of a file: how many marks it has and for which k, or why it is refused.
 pub fn page(bytes: &[u8]) -> Page
     ensures printed { λ r. ⌜ Printed (now (bytes .entry)) (shown r) ⌝ }
+    ensures once { λ _. ⌜ One-verdict ⌝ }
     ensures short { λ r. ⌜ length (shown r) ≤ 512 ⌝ }
 {
     match verdict(bytes) {

@@ -1,7 +1,7 @@
 use mathlib.Core.Path.{_≡_, refl, sym, ap, _∙_}
 use mathlib.Core.Logic.{_⊎_, inl, inr}
 use mathlib.Core.Bool.{Bool, true, false, not, _&&_, _||_}
-use Prim.Native.Nat.{ℕ, zero, suc, _+_, _≤_, _<_, zero-le}
+use Prim.Native.Nat.{ℕ, zero, suc, _+_, _-_, _≤_, _<_, zero-le}
 use native.Mathlib.Nat.{add-zero, add-suc, lt-irrefl}
 use native.Mathlib.Omega.{arith}
 use lib.Dec.{eqb}
@@ -61,7 +61,7 @@ unfolding card
 card-full zero p h = refl
 card-full (suc n) p h = omega (arith, card-full n p (λ i l. h i (omega arith)), ap one-if (h n (omega arith)))
 
--- inclusion and only mark more: strictly fewer
+-- inclusion and one mark more: strictly fewer
 pub card-strict : (n : ℕ) (p q : Set) (u : ℕ) → p ⊆ q → u < n → p u ≡ false → q u ≡ true → card n p < card n q
 unfolding card
 card-strict zero p q u h l f t = omega arith
@@ -110,3 +110,10 @@ pub heredity : (n k : ℕ) (a : Agreement) (p q : Set) → p ⊆ q → Kplex n k
 heredity n k a p q s h i m =
     let b = h i (s i m) in
     omega (arith, card-split n p (a i), card-split n q (a i), card-mono n (p ∖ a i) (q ∖ a i) (λ j. grind arith))
+
+-- a set of marks below n is counted as well over more
+pub card-beyond : (n m : ℕ) (s : Set) → ((i : ℕ) → s i ≡ true → i < n) → n ≤ m → card m s ≡ card n s
+card-beyond n m s w l =
+    let e : n + (m - n) ≡ m = omega arith in
+    let z = card-none (m - n) (λ i. s (n + i)) (λ i k. let y = w (n + i) in grind arith) in
+    ap (λ x. card x s) (sym e) ∙ omega (arith, card-cat n (m - n) s)

@@ -56,7 +56,7 @@ holds-words-of (suc m) p i h =
           ∙ holds-words-of m (λ j. p (32 + j)) (i - 32) (omega arith) ∙ ap p e
     ]
 
--- the words are the set: two lists of words of only length that hold the same marks are the same
+-- the words are the set: two lists of words of one length that hold the same marks are the same
 pub words-ext : (us vs : List ℕ) → length us ≡ length vs → Words us → Words vs → ((i : ℕ) → holds us i ≡ holds vs i) → us ≡ vs
 words-ext [] [] l a b h = refl
 words-ext [] (v ∷ vs) l a b h = let z : ⊥ = omega arith in absurd z

@@ -106,19 +106,7 @@ bits-of-not (suc k) w (suc j) h l =
 pub holds-and : (us vs cs : List ℕ) → ((j : ℕ) → getD cs j 0 ≡ bitAnd (getD us j 0) (getD vs j 0)) → (i : ℕ) → holds cs i ≡ (holds us i && holds vs i)
 holds-and us vs cs h i = rw (h (i / 32)) (bits-of-and (getD us (i / 32) 0) (getD vs (i / 32) 0) (i % 32))
 
--- the four words written out
-four : (a₀ a₁ a₂ a₃ b₀ b₁ b₂ b₃ : ℕ) → (i : ℕ)
-    → holds (bitAnd a₀ b₀ ∷ bitAnd a₁ b₁ ∷ bitAnd a₂ b₂ ∷ bitAnd a₃ b₃ ∷ []) i ≡ (holds (a₀ ∷ a₁ ∷ a₂ ∷ a₃ ∷ []) i && holds (b₀ ∷ b₁ ∷ b₂ ∷ b₃ ∷ []) i)
-four a₀ a₁ a₂ a₃ b₀ b₁ b₂ b₃ = holds-and (a₀ ∷ a₁ ∷ a₂ ∷ a₃ ∷ []) (b₀ ∷ b₁ ∷ b₂ ∷ b₃ ∷ []) (bitAnd a₀ b₀ ∷ bitAnd a₁ b₁ ∷ bitAnd a₂ b₂ ∷ bitAnd a₃ b₃ ∷ []) go
-  where
-    go : (j : ℕ) → getD (bitAnd a₀ b₀ ∷ bitAnd a₁ b₁ ∷ bitAnd a₂ b₂ ∷ bitAnd a₃ b₃ ∷ []) j 0 ≡ bitAnd (getD (a₀ ∷ a₁ ∷ a₂ ∷ a₃ ∷ []) j 0) (getD (b₀ ∷ b₁ ∷ b₂ ∷ b₃ ∷ []) j 0)
-    go zero = refl
-    go (suc zero) = refl
-    go (suc (suc zero)) = refl
-    go (suc (suc (suc zero))) = refl
-    go (suc (suc (suc (suc j)))) = refl
-
--- only word changed, where its bits are those of a test
+-- one word changed, where its bits are those of a test
 pub holds-put : (ws : List ℕ) (m v : ℕ) (q : Set) → m < length ws → ((b : ℕ) → b < 32 → bits-of v b ≡ q (m * 32 + b))
     → ((j : ℕ) → (j / 32 ≡ m → ⊥) → holds ws j ≡ q j) → (j : ℕ) → holds (set ws m v) j ≡ q j
 holds-put ws m v q l h k j =

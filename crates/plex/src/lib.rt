@@ -1,5 +1,5 @@
 //! Theory: sets of marks, words that hold them, agreement and k-plexes. Each function's contract is a theorem.
-ghost use Rattle.plex.specs.Laws.{Parts-are-plexes, Counting, Words-hold-sets, Rises, Sighted-both-ways};
+ghost use Rattle.plex.specs.Laws.{Parts-are-plexes, Counting, Words-hold-sets, Words-combine, Rises, Sighted-both-ways};
 
 // Every part of a k-plex is a k-plex.
 pub fn parts_are_plexes()
@@ -15,6 +15,12 @@ pub fn counting_stands()
 pub fn words_hold_sets()
     ensures { λ _. ⌜ Words-hold-sets ⌝ }
 {}
+
+// What and, or and not do to the bits of words, and what setting or clearing a bit does to the marks.
+pub fn words_combine()
+    ensures { λ _. ⌜ Words-combine ⌝ }
+{
+}
 
 // The rising list of a set has just its marks, in their order.
 pub fn lists_rise()

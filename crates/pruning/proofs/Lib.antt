@@ -1,3 +1,4 @@
 pub mod Striking
 pub mod Rounds
+pub mod Keeping
 pub mod Laws

@@ -46,6 +46,15 @@ left-marks n a g i = ltb i n && leb a (card n (g i))
 abbrev pub Offends : ℕ → ℕ → ℕ → Agreement → ℕ → ℕ → Type 0
 Offends n a b g i j = (card n (g i) < a) ⊎ ((card n (g j) < a) ⊎ (card n (g i ∩ g j) < b))
 
+-- the same as a test
+abbrev pub offends : ℕ → ℕ → ℕ → Agreement → ℕ → ℕ → Bool
+offends n a b g i j = ltb (card n (g i)) a || (ltb (card n (g j)) a || ltb (card n (g i ∩ g j)) b)
+
+-- g is what is left of r after some agreements were struck, and none of a good set was
+pub record Kept (n a b : ℕ) (r g : Agreement) : Type 0 where
+  pub part : g ⊑ r
+  pub most : (h : Agreement) → Good n a b h → h ⊑ r → h ⊑ g
+
 -- the agreements of r between marks of s
 abbrev pub between : Agreement → Set → Agreement
 between r s i j = r i j && (s i && s j)

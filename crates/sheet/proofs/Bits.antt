@@ -3,18 +3,19 @@ use mathlib.Core.Path.{_≡_, refl, sym, _∙_, ap, ap₂}
 use mathlib.Core.Logic.{_⊎_, inl, inr}
 use mathlib.Core.Bool.{Bool, true, false, cond, _&&_, _||_}
 use mathlib.Core.List.{List, _++_}
-use Prim.Native.Nat.{ℕ, _+_, _*_, _/_, _%_, _^_, _≤_, _<_}
-use native.Mathlib.Nat.{mul-le-mul-right, add-mul, one-mul}
+use Prim.Native.Nat.{ℕ, zero, suc, _+_, _*_, _/_, _%_, _^_, _≤_, _<_}
+use native.Mathlib.Nat.{pow-suc, mul-le-mul-right, add-mul, one-mul}
 use native.Mathlib.Omega.{arith}
-use lib.Bits.{bitOr}
+use lib.Bits.{bitOr, or-step, or-zero-r}
 use lib.Dec.{eqb, leb, ltb}
-use lib.ListN.{length, getD, set, drop, replicate, length-set, length-replicate}
+use lib.ListN.{length, getD, set, take, drop, replicate, length-set, length-take, length-replicate}
 use Rattle.std.proofs.shelf.Bits.{div-mul-add}
-use Rattle.std.proofs.shelf.Lists.{getD-set-same, getD-set-other, getD-append-left, getD-replicate}
-use Rattle.std.proofs.shelf.Tests.{cases-eq}
+use Rattle.std.proofs.shelf.Lists.{getD-set-same, getD-set-other, getD-append-left, getD-replicate, getD-past, set-getD}
+use Rattle.std.proofs.shelf.Tests.{cases-eq, cases-lt, ne-eqb}
 use Rattle.std.proofs.shelf.Ways.{tells}
+use Rattle.plex.specs.Sets.{one-if}
 use Rattle.plex.specs.Words.{bits-of}
-use Rattle.plex.proofs.Words.{bits-of-or, bits-of-pow, bits-of-none}
+use Rattle.plex.proofs.Words.{bits-of-or, bits-of-pow, bits-of-none, bits-of-zero, bits-of-suc}
 use Rattle.sheet.specs.Rows.{row-words, bit-of, bit-entered, marks-held}
 use Rattle.sheet.proofs.Parts.{part-at}
 
@@ -34,6 +35,12 @@ held-fits room n = grind (arith, tells)
 -- a bit's word
 pub bit-at : (ws : List ℕ) (r i j : ℕ) → j / 32 < r → bit-of ws r i j ≡ bits-of (getD ws (i * r + j / 32) 0) (j % 32)
 bit-at ws r i j h = ap (λ w. bits-of w (j % 32)) (part-at ws (i * r) r (j / 32) h)
+
+-- past its row there is none
+past-row : (ws : List ℕ) (r i j : ℕ) → r ≤ j / 32 → bit-of ws r i j ≡ false
+past-row ws r i j h =
+    let l : length (take r (drop (i * r) ws)) ≤ j / 32 = simp length-take (omega arith) in
+    ap (λ w. bits-of w (j % 32)) (getD-past (take r (drop (i * r) ws)) (j / 32) 0 l) ∙ bits-of-none (j % 32)
 
 module _ (n i j : ℕ) (hi : i < n) (hj : j < n) where
   -- it stands within its row, and its row among the rows
@@ -55,13 +62,12 @@ module _ (ws : List ℕ) (n i j : ℕ) (hi : i < n) (hj : j < n) (room : n * row
   here = omega (arith, bit-in-words n i j hi hj)
 
   -- a bit that is set is there besides those that were
-  pub bit-entered-at : (p q : ℕ) → p < n → q < n →
+  pub bit-entered-at : (p q : ℕ) → q / 32 < row-words n →
       bit-of (bit-entered ws (row-words n) i j) (row-words n) p q ≡ (bit-of ws (row-words n) p q || (eqb p i && eqb q j))
-  bit-entered-at p q hp hq =
+  bit-entered-at p q in-row =
       let r = row-words n in
       let at = i * r + j / 32 in
       let ws′ = bit-entered ws r i j in
-      let in-row : q / 32 < r = bit-in-row n p q hp hq in
       elim (cases-eq (p * r + q / 32) at) [
         | inl e ↦ (let f = same-row p i (q / 32) (j / 32) r in-row (bit-in-row n i j hi hj) e in
             let g : q / 32 ≡ j / 32 = omega (arith, ap (λ k. k * r) f) in
@@ -80,6 +86,30 @@ module _ (ws : List ℕ) (n i j : ℕ) (hi : i < n) (hj : j < n) (room : n * row
 
       other : (b : Bool) (p q : ℕ) → (p ≡ i → q ≡ j → ⊥) → b ≡ (b || (eqb p i && eqb q j))
       other b p q h = grind (arith, tells)
+
+  -- a bit of another mark is as it was
+  pub bit-entered-spare : (p q : ℕ) → (q ≡ j → ⊥) → bit-of (bit-entered ws (row-words n) i j) (row-words n) p q ≡ bit-of ws (row-words n) p q
+  bit-entered-spare p q other =
+      elim (cases-lt (q / 32) (row-words n)) [
+        inl l ↦ bit-entered-at p q l ∙ ap (λ b. bit-of ws (row-words n) p q || (eqb p i && b)) (ne-eqb q j other) ∙ none (bit-of ws (row-words n) p q) (eqb p i)
+      | inr l ↦ past-row (bit-entered ws (row-words n) i j) (row-words n) p q l ∙ sym (past-row ws (row-words n) p q l)
+      ]
+    where
+      none : (x y : Bool) → (x || (y && false)) ≡ x
+      none x y = grind arith
+
+-- a word that has a bit is as it was where that bit is set
+or-same : (b v : ℕ) → bits-of v b ≡ true → bitOr v (2 ^ b) ≡ v
+or-same zero v e = omega (arith, or-step v 1, or-zero-r (v / 2), bits-of-zero v, ap one-if e)
+or-same (suc b) v e =
+    let h : 2 ^ suc b / 2 ≡ 2 ^ b = omega (arith, pow-suc 2 b) in
+    let f = ap (bitOr (v / 2)) h ∙ or-same b (v / 2) (sym (bits-of-suc v b) ∙ e) in
+    omega (arith, or-step v (2 ^ suc b), pow-suc 2 b)
+
+pub bit-entered-same : (ws : List ℕ) (n i j : ℕ) → i < n → j < n → bit-of ws (row-words n) i j ≡ true → bit-entered ws (row-words n) i j ≡ ws
+bit-entered-same ws n i j hi hj e =
+    let at = i * row-words n + j / 32 in
+    ap (set ws at) (or-same (j % 32) (getD ws at 0) (sym (bit-at ws (row-words n) i j (bit-in-row n i j hi hj)) ∙ e)) ∙ set-getD ws at 0
 
 -- cleared rows have no bit
 pub cleared-at : (ws : List ℕ) (n p q : ℕ) → p < n → q < n →

@@ -6,14 +6,14 @@ use mathlib.Core.List.{List, _++_}
 use Prim.Native.Nat.{ℕ, _+_, _-_, _*_, _/_, _≤_, _<_}
 use native.Mathlib.Omega.{arith}
 use lib.Dec.{eqb, leb, ltb}
-use lib.ListN.{length, drop, replicate, length-set, length-append, length-replicate, length-drop}
+use lib.ListN.{length, getD, drop, replicate, length-set, length-append, length-replicate, length-drop}
 use Rattle.std.proofs.shelf.Ways.{tells}
-use Rattle.std.proofs.shelf.Tests.{cases-lt}
+use Rattle.std.proofs.shelf.Lists.{getD-set-other}
 use Rattle.plex.specs.Sets.{Agreement, is-pair}
 use Rattle.plex.specs.Meaning.{agree-by}
 use Rattle.sheet.specs.Rows.{row-words, bit-of, bit-entered, both-bits, marks-held}
 use Rattle.sheet.specs.Entering.{entered}
-use Rattle.sheet.proofs.Bits.{held-few, held-all, bit-entered-at, cleared-at}
+use Rattle.sheet.proofs.Bits.{held-few, held-all, bit-in-row, bit-in-words, bit-entered-at, bit-entered-same, bit-entered-spare, cleared-at}
 
 -- a relation that holds between no two marks gives no agreement
 pub agree-none : (n : ℕ) (r : Agreement) (i j : ℕ) → ((p q : ℕ) → p < n → q < n → r p q ≡ false) → agree-by n r i j ≡ false
@@ -57,7 +57,7 @@ module _ (ws : List ℕ) (n i j : ℕ) (hi : i < n) (hj : j < n) (room : n * row
       let r = row-words n in
       let ws₁ = bit-entered ws r i j in
       let room₁ : n * r ≤ length ws₁ = simp length-set room in
-      bit-entered-at ws₁ n j i hj hi room₁ p q hp hq ∙ ap (λ b. b || (eqb p j && eqb q i)) (bit-entered-at ws n i j hi hj room p q hp hq)
+      bit-entered-at ws₁ n j i hj hi room₁ p q (bit-in-row n p q hp hq) ∙ ap (λ b. b || (eqb p j && eqb q i)) (bit-entered-at ws n i j hi hj room p q (bit-in-row n p q hp hq))
 
   pub both-bits-entered : (p q : ℕ) → p < n → q < n →
       both-bits (bit-entered (bit-entered ws (row-words n) i j) (row-words n) j i) (row-words n) p q ≡ (both-bits ws (row-words n) p q || is-pair i j p q)
@@ -80,6 +80,43 @@ module _ (ws : List ℕ) (n i j : ℕ) (hi : i < marks-held (length ws) n) (hj :
       ∙ agree-more m (both-bits ws r) (both-bits ws′ r) i j p q hi hj apart (λ a b ha hb.
       ap (λ xs. both-bits xs r a b) is
       ∙ both-bits-entered ws n i j (h .0) (hj′ .0) (h .2) a b (held-few (length ws) n a ha .0) (held-few (length ws) n b hb .0))
+
+  -- a pair that was there already
+  pub entered-again : entered ws n i j ≡ true → ws′ ≡ ws
+  entered-again e =
+      let r = row-words n in
+      let both = agreed (marks-held (length ws) n) i j (bit-of ws r i j) (bit-of ws r j i) e in
+      let one = bit-entered-same ws n i j (held-few (length ws) n i hi .0) (held-few (length ws) n j hj .0) (both .0) in
+      is ∙ ap (λ xs. bit-entered xs r j i) one ∙ bit-entered-same ws n j i (held-few (length ws) n j hj .0) (held-few (length ws) n i hi .0) (both .1)
+    where
+      agreed : (n i j : ℕ) (x y : Bool) → ((ltb i n && ltb j n) && ((ltb i j && (x && y)) || (ltb j i && (y && x)))) ≡ true → (x ≡ true) × (y ≡ true)
+      agreed n i j x y h = (grind arith, grind arith)
+
+  pub entered-holding : marks-held (length ws′) n ≡ marks-held (length ws) n
+  entered-holding = ap (λ l. marks-held l n) entered-length
+
+  -- the words behind the rows
+  pub entered-behind : (p : ℕ) → n * row-words n ≤ p → getD ws′ p 0 ≡ getD ws p 0
+  entered-behind p h =
+      let r = row-words n in
+      let hi′ = held-few (length ws) n i hi .0 in
+      let hj′ = held-few (length ws) n j hj .0 in
+      let one = bit-in-words n i j hi′ hj′ in
+      let two = bit-in-words n j i hj′ hi′ in
+      ap (λ xs. getD xs p 0) is
+      ∙ getD-set-other (bit-entered ws r i j) (j * r + i / 32) p _ 0 (λ e. omega arith)
+      ∙ getD-set-other ws (i * r + j / 32) p _ 0 (λ e. omega arith)
+
+  -- the bits at or above n
+  pub entered-spare : (p q : ℕ) → p < n → n ≤ q → bit-of ws′ (row-words n) p q ≡ bit-of ws (row-words n) p q
+  entered-spare p q hp hq =
+      let r = row-words n in
+      let h = held-few (length ws) n i hi in
+      let hj′ = held-few (length ws) n j hj .0 in
+      let room₁ : n * r ≤ length (bit-entered ws r i j) = simp length-set (h .2) in
+      ap (λ xs. bit-of xs r p q) is
+      ∙ bit-entered-spare (bit-entered ws r i j) n j i hj′ (h .0) room₁ p q (λ e. omega (arith, h .0))
+      ∙ bit-entered-spare ws n i j (h .0) hj′ (h .2) p q (λ e. omega arith)
 
 -- a sealed sheet, which has the marks that the entry holds, has its agreement
 pub sealed-agrees : (ws : List ℕ) (n m : ℕ) → m ≡ marks-held (length ws) n → (i j : ℕ) →

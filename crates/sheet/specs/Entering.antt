@@ -1,18 +1,16 @@
 -- What an entry answers, and what it leaves in the words. Assumes nothing.
 use mathlib.Core.Path.{_≡_}
-use mathlib.Core.Bool.{false, _&&_, _||_}
+use mathlib.Core.Bool.{true, false, _||_}
 use mathlib.Core.List.{List, _++_}
 use Prim.Native.Nat.{ℕ, _*_, _≤_, _<_}
 use denote.Ref.{now}
-use lib.Dec.{eqb}
-use lib.ListN.{length, drop, replicate}
+use lib.ListN.{length, getD, drop, replicate}
 use Rattle.std.specs.declared.result.Result.{Result}
 use Rattle.std.specs.declared.result.Result.the-variants.{Ok, Err}
 use Rattle.plex.specs.Sets.{Agreement, is-pair}
 use Rattle.plex.specs.Meaning.{agree-by}
-use Rattle.sheet.specs.Rows.{row-words, bit-entered, both-bits, marks-held}
+use Rattle.sheet.specs.Rows.{row-words, bit-of, bit-entered, both-bits, marks-held}
 use Rattle.sheet.specs.declared.entry.Entry.{Entry}
-use Rattle.sheet.specs.declared.entry.Sealed.{Sealed}
 use Rattle.sheet.specs.declared.entry.NotBegun.{NotBegun}
 use Rattle.sheet.specs.declared.entry.EntryRefusal.{EntryRefusal}
 use Rattle.sheet.specs.declared.entry.EntryRefusal.the-variants.{TooManyMarks, TooFewWords, NoSuchMark, SameMark}
@@ -27,10 +25,6 @@ number SameMark = 24
 -- which marks agree so far, by the words and the number of marks that the entry was begun for
 abbrev pub entered : List ℕ → ℕ → Agreement
 entered ws n = agree-by (marks-held (length ws) n) (both-bits ws (row-words n))
-
--- which marks of a sealed sheet agree
-abbrev pub sealed : Sealed → Agreement
-sealed s = agree-by (s .marks) (both-bits (now (s .words)) (row-words (s .marks)))
 
 -- an entry of n marks is begun in the words ws: the words of its rows are cleared, and no others
 pub record Begun (ws : List ℕ) (n : ℕ) (e : Entry) : Type 0 where
@@ -61,6 +55,12 @@ pub record Entered (ws : List ℕ) (n i j v : ℕ) (ws′ : List ℕ) : Type 0 w
   pub apart : i ≡ j → ⊥
   pub words : ws′ ≡ bit-entered (bit-entered ws (row-words n) i j) (row-words n) j i
   pub agreement : (p q : ℕ) → entered ws′ n p q ≡ (entered ws n p q || is-pair i j p q)
+  -- entering a pair again changes nothing
+  pub again : entered ws n i j ≡ true → ws′ ≡ ws
+  -- the entry's marks stay, and so do the words behind its rows and the bits at or above n
+  pub holding : marks-held (length ws′) n ≡ marks-held (length ws) n
+  pub behind : (p : ℕ) → n * row-words n ≤ p → getD ws′ p 0 ≡ getD ws p 0
+  pub spare : (p q : ℕ) → p < n → n ≤ q → bit-of ws′ (row-words n) p q ≡ bit-of ws (row-words n) p q
 
 -- the pair i and j is entered among n marks in the words ws, which leaves the words ws′
 abbrev pub Enters : List ℕ → ℕ → ℕ → ℕ → Result ℕ EntryRefusal → List ℕ → Type 0

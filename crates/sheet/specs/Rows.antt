@@ -1,7 +1,7 @@
 -- Rows of bits in a caller's words. Assumes nothing.
 use mathlib.Core.Bool.{Bool, cond, _&&_}
 use mathlib.Core.List.{List}
-use Prim.Native.Nat.{ℕ, _+_, _*_, _/_, _%_, _^_}
+use Prim.Native.Nat.{ℕ, _+_, _*_, _/_, _%_, _^_, _≤_}
 use lib.Bits.{bitOr}
 use lib.Dec.{leb}
 use lib.ListN.{getD, take, drop, set}
@@ -31,3 +31,7 @@ both-bits ws r i j = bit-of ws r i j && bit-of ws r j i
 -- the marks of an entry for n marks in so many words: all n, if they are at most 128 and their rows fit, and otherwise none
 abbrev pub marks-held : ℕ → ℕ → ℕ
 marks-held room n = cond (leb n 128 && leb (n * row-words n) room) n 0
+
+-- a row has the least number of words whose bits are at least n
+abbrev pub Least-words : Type 0
+Least-words = (n : ℕ) → (n ≤ 32 * row-words n) × ((r : ℕ) → n ≤ 32 * r → row-words n ≤ r)

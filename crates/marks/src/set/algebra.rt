@@ -1,6 +1,6 @@
 // Making, asking and combining sets.
 ghost use mathlib.Core.Path.{_≡_};
-ghost use mathlib.Core.Bool.{not, _&&_};
+ghost use mathlib.Core.Bool.{false, not, _&&_};
 ghost use Prim.Native.Nat.{ℕ, _≤_, _<_};
 ghost use lib.Dec.{eqb};
 ghost use Rattle.plex.specs.Sets.{card, none, only, _∩_, _∪_, _∖_};
@@ -51,7 +51,8 @@ impl MarkSet {
 
     // Whether the mark is in the set; a number of 128 or more is in none.
     pub fn has(self, mark: u32) -> bool
-        ensures { λ r. ⌜ r ≡ members self mark ⌝ }
+        ensures inside { λ r. ⌜ r ≡ members self mark ⌝ }
+        ensures outside { λ r. ⌜ (128 ≤ mark → r ≡ false) ⌝ }
     {
         mark < 128 && (self.words[mark as usize / 32] >> (mark % 32)) & 1 == 1
     }

@@ -5,8 +5,9 @@ ghost use lib.Bits.{bitOr};
 ghost use lib.ListN.{length, getD, set, replicate};
 ghost use denote.Ref.{name};
 ghost use Rattle.std.specs.declared.result.Result.the-variants.{Ok, Err};
-ghost use Rattle.sheet.specs.Rows.{row-words, bit-entered, marks-held};
-ghost use Rattle.sheet.specs.Entering.{number, entered, sealed, Begins, Enters};
+ghost use Rattle.sheet.specs.contracts.entry.questions.SealedSheet.the-impl.{ghosts};
+ghost use Rattle.sheet.specs.Rows.{row-words, bit-entered, marks-held, Least-words};
+ghost use Rattle.sheet.specs.Entering.{number, entered, Begins, Enters};
 use super::Entry;
 use super::EntryRefusal;
 use super::NotBegun;
@@ -62,6 +63,7 @@ impl<'a> Entry<'a> {
     // Begins an entry in words that the caller lends: clears the rows of the marks, and no other word.
     pub fn begin(words: &'a mut [u32], marks: u32) -> Result<Entry<'a>, NotBegun<'a>>
         ensures begins { λ r. ⌜ Begins (now (words .entry)) marks r ⌝ }
+        ensures rows { λ _. ⌜ Least-words ⌝ }
         ensures lent { λ r. ⌜ elim r [ Ok e ↦ name (e .words) ≡ name (words .entry) | Err b ↦ name (b .words) ≡ name (words .entry) ] ⌝ }
     {
         if marks > 128 {
@@ -84,6 +86,7 @@ impl<'a> Entry<'a> {
     // Enters that marks i and j agree; again, it changes nothing.
     pub fn enter(&mut self, i: u32, j: u32) -> Result<u32, EntryRefusal>
         ensures marks { λ _. ⌜ now (self .exit) .marks ≡ now (self .entry) .marks ⌝ }
+        ensures lent { λ _. ⌜ name (now (self .exit) .words) ≡ name (now (self .entry) .words) ⌝ }
         ensures enters { λ r. ⌜ Enters (now (now (self .entry) .words)) (now (self .entry) .marks) i j r (now (now (self .exit) .words)) ⌝ }
     {
         let marks = held(self.words.len(), self.marks);
@@ -102,6 +105,7 @@ impl<'a> Entry<'a> {
     fn enter_bit(&mut self, i: u32, j: u32)
         requires { ⌜ i < marks-held (length (now (now self .words))) (now self .marks) ⌝ ∗ ⌜ j < marks-held (length (now (now self .words))) (now self .marks) ⌝ }
         ensures marks { λ _. ⌜ now (self .exit) .marks ≡ now (self .entry) .marks ⌝ }
+        ensures lent { λ _. ⌜ name (now (self .exit) .words) ≡ name (now (self .entry) .words) ⌝ }
         ensures words { λ _. ⌜ now (now (self .exit) .words) ≡ bit-entered (now (now (self .entry) .words)) (row-words (now (self .entry) .marks)) i j ⌝ }
     {
         let r = words_in_row(self.marks);
@@ -113,7 +117,7 @@ impl<'a> Entry<'a> {
     pub fn seal(self) -> Sealed<'a>
         ensures words { λ s. ⌜ now (s .words) ≡ now (self .entry .words) ⌝ }
         ensures marks { λ s. ⌜ s .marks ≡ marks-held (length (now (self .entry .words))) (self .entry .marks) ⌝ }
-        ensures agreement { λ s. ⌜ ((i j : ℕ) → sealed s i j ≡ entered (now (self .entry .words)) (self .entry .marks) i j) ⌝ }
+        ensures agreement { λ s. ⌜ ((i j : ℕ) → ghosts .meaning s .agrees i j ≡ entered (now (self .entry .words)) (self .entry .marks) i j) ⌝ }
     {
         let Entry { words, marks } = self;
         let marks = held(words.len(), marks);

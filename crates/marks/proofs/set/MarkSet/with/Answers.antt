@@ -18,7 +18,7 @@ returns-then-mark-ge128 c =
           elim (c .then-mark-ge128 .came) [
             | then-mark-ge128·by·then-mark-ge128 w ↦ absurd (omega arith)
             | then-mark-ge128·by·else-mark-ge128·then-has w ↦
-                with-there s (c .args .mark) (sym (w .has .ensures) ∙ w .if-has .taken)
+                with-there s (c .args .mark) (sym (w .has .ensures .inside) ∙ w .if-has .taken)
           ];
       outside = λ _. refl;
     }
@@ -35,7 +35,7 @@ ghost-result c =
         arith,
         c .args .self .counted,
         ap (card 128) (holds-bit-set ws i l (c .if-mark-ge128 .left)),
-        card-more 128 (holds ws) i (c .if-mark-ge128 .left) (sym (c .if-has .ensures tt)),
+        card-more 128 (holds ws) i (c .if-mark-ge128 .left) (sym (c .if-has .ensures tt .inside)),
       ),
       tt,
     )

@@ -17,13 +17,13 @@ returns-then-mark-ge128 c =
     let l : length ws ≡ 4 = search needs in
     elim (c .then-mark-ge128 .came) [
       | then-mark-ge128·by·then-mark-ge128 w ↦ without-there (holds ws) i (holds-past ws l i (w .if-mark-ge128 .taken))
-      | then-mark-ge128·by·else-mark-ge128·then-not-has w ↦ without-there (holds ws) i (sym (w .has .ensures) ∙ w .if-not-has .taken)
+      | then-mark-ge128·by·else-mark-ge128·then-not-has w ↦ without-there (holds ws) i (sym (w .has .ensures .inside) ∙ w .if-not-has .taken)
     ]
 
 pub sub-result : need.sub-result
 sub-result c =
     let s = holds (c .args .self .words) in
-    omega (arith, c .args .self .counted, card-less 128 s (c .args .mark) (c .if-mark-ge128 .left) (sym (c .if-not-has .ensures tt)))
+    omega (arith, c .args .self .counted, card-less 128 s (c .args .mark) (c .if-mark-ge128 .left) (sym (c .if-not-has .ensures tt .inside)))
 
 pub ghost-result : need.ghost-result
 ghost-result c =
@@ -34,7 +34,7 @@ ghost-result c =
         arith,
         c .args .self .counted,
         ap (card 128) (holds-bit-cleared ws i l (c .if-mark-ge128 .left)),
-        card-less 128 (holds ws) i (c .if-mark-ge128 .left) (sym (c .if-not-has .ensures tt)),
+        card-less 128 (holds ws) i (c .if-mark-ge128 .left) (sym (c .if-not-has .ensures tt .inside)),
       ),
       tt,
     )

@@ -31,5 +31,6 @@ returns c =
         holding = begun-holding ws _ n (c .if-marks-gt128 .left) room is;
         nothing = begun-nothing ws _ n (c .if-marks-gt128 .left) room is;
       };
+      rows = λ n. (omega arith, λ r h. omega arith);
       lent = refl;
     }

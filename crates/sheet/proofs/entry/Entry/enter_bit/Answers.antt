@@ -34,6 +34,7 @@ returns c =
     let p : j / 32 < k = omega (arith, bit-in-row n i j (hi .0) (hj .0)) in
     record {
       marks = refl;
+      lent = refl;
       words = ap (putMid a k ws) (c .set-bit .ensures) ∙ part-set ws a k (j / 32) _ l p
           ∙ ap (λ (b : ℕ). set ws (a + j / 32) (bitOr b (2 ^ (j % 32)))) (part-at ws a k (j / 32) p)
           ∙ ap (λ x. bit-entered ws x i j) is;

@@ -1,0 +1,4 @@
+pub mod Within
+pub mod Counting
+pub mod Lowering
+pub mod Wearing
