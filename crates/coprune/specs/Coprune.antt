@@ -5,6 +5,9 @@ use mathlib.Core.List.{List}
 use Prim.Native.Nat.{ℕ, _+_, _*_, _≤_, _<_}
 use Rattle.plex.specs.Meaning.{Meaning}
 use Rattle.plex.specs.Sets.{Set}
+use lib.ListN.{length}
+use Rattle.queue.specs.declared.ring.Queue.{Queue}
+use Rattle.queue.specs.Waits.{held, waiting}
 use Rattle.pruning.specs.Pruned.{Largest, Kept, offends, ends-needed, shared-needed, left-marks, agreements, agreements-at-ends}
 
 -- m′ is what is left of m after some agreements that may not stay were struck
@@ -30,3 +33,13 @@ pub record Looks-among (a b : ℕ) (m : Meaning) (i : ℕ) (others : Set) (was-s
   pub wears : Wears a b m m′
   pub fewer : was-struck ≡ true → at-ends m′ < at-ends m
   pub fine : was-struck ≡ false → (j : ℕ) → others j ≡ true → bad a b m i j ≡ false
+
+-- all agreements were looked at
+pub record Sweeps (a b : ℕ) (m : Meaning) (was-struck : Bool) (m′ : Meaning) : Type 0 where
+  pub wears : Wears a b m m′
+  pub fewer : was-struck ≡ true → at-ends m′ < at-ends m
+  pub fine : was-struck ≡ false → (m′ ≡ m) × ((i j : ℕ) → bad a b m i j ≡ false)
+
+-- what is left to do at most: either an agreement is struck, and as many may wait as there are places, or fewer wait
+abbrev pub work : {T U : Type 0} → Meaning → Queue T → Queue U → ℕ
+work m p q = at-ends m * (length (held p) + length (held q) + 1) + (length (waiting p) + length (waiting q))

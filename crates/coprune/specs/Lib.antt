@@ -1,1 +1,2 @@
 pub mod Coprune
+pub mod Answers

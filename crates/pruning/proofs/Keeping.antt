@@ -79,5 +79,6 @@ largest-at-end n a b r g s k h = record {
 }
 
 -- fewer agreements with as much as fits waiting, or as many with less waiting: what a loop has left to do falls
-pub work-falls : (t t′ w w′ c : ℕ) → t′ < t → w′ ≤ c → t′ * (c + 1) + w′ < t * (c + 1) + w
-work-falls t t′ w w′ c l m = omega (arith, mul-le-mul-right (c + 1) l, add-mul t′ 1 (c + 1), one-mul (c + 1))
+pub work-falls : (t t′ c c′ w w′ : ℕ) → c′ ≡ c → t′ ≤ t → w′ ≤ c → (t′ < t) ⊎ (w′ < w) → t′ * (c′ + 1) + w′ < t * (c + 1) + w
+work-falls t t′ c c′ w w′ e l m (inl s) = omega (arith, ap (λ x. t′ * (x + 1)) e, mul-le-mul-right (c + 1) s, add-mul t′ 1 (c + 1), one-mul (c + 1))
+work-falls t t′ c c′ w w′ e l m (inr s) = omega (arith, ap (λ x. t′ * (x + 1)) e, mul-le-mul-right (c + 1) l)
