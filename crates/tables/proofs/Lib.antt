@@ -1,0 +1,5 @@
+pub mod Rows
+pub mod Among
+pub mod PairLists
+pub mod Places
+pub mod Changing

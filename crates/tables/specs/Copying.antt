@@ -1,0 +1,69 @@
+-- What it is to copy a sheet into a table of pairs, and to look a pair up there. Assumes nothing.
+use mathlib.Core.Path.{_≡_}
+use mathlib.Core.Logic.{_⊎_}
+use mathlib.Core.Bool.{Bool, true, false}
+use mathlib.Core.List.{List, [], _∷_, _++_}
+use Prim.Native.Nat.{ℕ, _+_, _≤_, _<_}
+use lib.ListN.{length, getD, take}
+use Rattle.std.specs.declared.option.Option.{Option}
+use Rattle.std.specs.declared.option.Option.the-variants.{Some, None}
+use Rattle.std.specs.declared.result.Result.{Result}
+use Rattle.std.specs.declared.result.Result.the-variants.{Ok, Err}
+use Rattle.plex.specs.Sets.{Set, Agreement, among, card, below, none, only, _∖_}
+use Rattle.plex.specs.Meaning.{Meaning}
+use Rattle.pruning.specs.Pruned.{agreements}
+use Rattle.fileword.specs.Layout.{kind, load}
+use Rattle.tables.specs.Pairs.{row-pairs, pairs-to}
+use Rattle.tables.specs.Meanings.{pair-table-meaning}
+use Rattle.tables.specs.declared.pairs.PairTable.{PairTable}
+use Rattle.tables.specs.declared.pairs.TooManyAgreements.{TooManyAgreements}
+use Rattle.tables.specs.declared.pairs.listing.PairList.{PairList}
+
+-- the number of the refusal
+abbrev pub number : TooManyAgreements → ℕ
+number e = 31
+
+-- a table of pairs has the marks and the agreement of a sheet, and no word is struck
+pub record Pair-copy (m : Meaning) (t : PairTable) : Type 0 where
+  pub fits : agreements (m .marks) (m .agrees) ≤ 4096
+  pub marks : t .marks ≡ m .marks
+  pub agrees : pair-table-meaning t .agrees ≡ m .agrees
+  pub fresh : (p : ℕ) → (getD (t .words) p 0 ≡ 0) ⊎ (kind (getD (t .words) p 0) ≡ 2)
+
+-- a sheet is copied if it has at most 4,096 agreements
+abbrev pub Copied : Meaning → Result PairTable TooManyAgreements → Type 0
+Copied m (Ok t) = Pair-copy m t
+Copied m (Err e) = 4096 < agreements (m .marks) (m .agrees)
+
+-- the words of a list
+abbrev pub listed : PairList → List ℕ
+listed l = take (l .len) (l .words)
+
+-- a word was put behind the others, or there was no room
+abbrev pub Pushed : List ℕ → ℕ → Bool → List ℕ → Type 0
+Pushed xs w r ys = (r ≡ true → ys ≡ xs ++ w ∷ []) × (r ≡ false → length xs ≡ 4096)
+
+-- the words of mark i with the higher marks of s were put behind the others, or there was no room for them
+abbrev pub Row-added : List ℕ → ℕ → ℕ → Set → Bool → List ℕ → Type 0
+Row-added xs i n s r ys = (r ≡ true → ys ≡ xs ++ row-pairs i n s) × (r ≡ false → 4096 < length xs + card n (s ∖ below (i + 1)))
+
+-- the words of all pairs were listed, or there was no room for them
+abbrev pub Listed : Meaning → Result PairList TooManyAgreements → Type 0
+Listed m (Ok l) = listed l ≡ pairs-to (m .marks) (m .marks) (m .agrees)
+Listed m (Err e) = 4096 < agreements (m .marks) (m .agrees)
+
+-- place r parts the first len words: their loads are below l before it, and not from it on
+pub record Parts (ws : List ℕ) (len l r : ℕ) : Type 0 where
+  pub within : r ≤ len
+  pub before : (p : ℕ) → p < r → load (getD ws p 0) < l
+  pub after : (p : ℕ) → r ≤ p → p < len → l ≤ load (getD ws p 0)
+
+-- a word is looked up among the first len of the words
+abbrev pub Found : List ℕ → ℕ → ℕ → Option ℕ → Type 0
+Found ws len w None = among ws w ≡ false
+Found ws len w (Some p) = (p < len) × (p < length ws) × (getD ws p 0 ≡ w)
+
+-- the set is empty, or has just the one mark
+abbrev pub Is-just : Set → Option ℕ → Type 0
+Is-just s None = s ≡ none
+Is-just s (Some u) = (u < 128) × (s ≡ only u)

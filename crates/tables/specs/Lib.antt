@@ -1,0 +1,5 @@
+pub mod Bits
+pub mod Pairs
+pub mod Meanings
+pub mod Copying
+pub mod Laws
