@@ -37,8 +37,8 @@ module _ (a b : ℕ) (m : Meaning) (i : ℕ) (others rest : Set) (was : Bool) (m
     fewer = λ e. omega (arith, l .fewer e, wears-fewer a b m′ m″ (k .wears));
     fine = λ e j t.
         elim (cases-eq j u) [
-          inl f ↦ inr (ap (bad a b m i) f ∙ ap (λ x. bad a b x i u) (sym (same e)) ∙ sym (k .said))
-        | inr f ↦ elim (l .fine e j t) [ inl r ↦ inl (ap (λ s. s j) is ∙ kept (rest j) (eqb j u) r (ne-eqb j u f)) | inr r ↦ inr r ]
+          | inl f ↦ inr (ap (bad a b m i) f ∙ ap (λ x. bad a b x i u) (sym (same e)) ∙ sym (k .said))
+          | inr f ↦ elim (l .fine e j t) [ inl r ↦ inl (ap (λ s. s j) is ∙ kept (rest j) (eqb j u) r (ne-eqb j u f)) | inr r ↦ inr r ]
         ];
   }
     where

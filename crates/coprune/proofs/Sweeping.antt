@@ -40,19 +40,19 @@ module _ (a b : ℕ) (m : Meaning) (i : ℕ) (was : Bool) (m′ : Meaning) (l : 
     fewer = λ e. omega (arith, l .fewer e, wears-fewer a b m′ m″ (k .wears));
     fine = λ e p q h r.
         elim (cases-lt p i) [
-          inl s ↦ l .fine e p q s r
-        | inr s ↦
-            (let f : p ≡ i = omega arith in
-            let lq : i + 1 ≤ q = omega arith in
-            ap (λ x. bad a b m x q) f ∙ ap (λ x. bad a b x i q) (sym (same e)) ∙ here q lq)
+          | inl s ↦ l .fine e p q s r
+          | inr s ↦
+              (let f : p ≡ i = omega arith in
+              let lq : i + 1 ≤ q = omega arith in
+              ap (λ x. bad a b m x q) f ∙ ap (λ x. bad a b x i q) (sym (same e)) ∙ here q lq)
         ];
   }
     where
       here : (q : ℕ) → i + 1 ≤ q → bad a b m′ i q ≡ false
       here q h =
           elim (cases-bool (m′ .agrees i q)) [
-            inl t ↦ k .fine refl q (ap (λ s. s q) is ∙ and-from (m′ .agrees i q) _ t (ap not (le-ltb q (i + 1) h)))
-          | inr t ↦ and-left (m′ .agrees i q) _ t
+            | inl t ↦ k .fine refl q (ap (λ s. s q) is ∙ and-from (m′ .agrees i q) _ t (ap not (le-ltb q (i + 1) h)))
+            | inr t ↦ and-left (m′ .agrees i q) _ t
           ]
 
   pub swept-all : m .marks ≤ i → (was ≡ false → m′ ≡ m) → Sweeps a b m was m′
@@ -65,6 +65,6 @@ module _ (a b : ℕ) (m : Meaning) (i : ℕ) (was : Bool) (m′ : Meaning) (l : 
       all : was ≡ false → (p q : ℕ) → bad a b m p q ≡ false
       all e p q =
           elim (cases-order p q) [
-            inl f ↦ ap (bad a b m p) (sym f) ∙ and-left (m .agrees p p) _ (m .irreflexive p)
-          | inr f ↦ elim f [ inl k ↦ low e p q k | inr k ↦ bad-both-ways a b m p q ∙ low e q p k ]
+            | inl f ↦ ap (bad a b m p) (sym f) ∙ and-left (m .agrees p p) _ (m .irreflexive p)
+            | inr f ↦ elim f [ inl k ↦ low e p q k | inr k ↦ bad-both-ways a b m p q ∙ low e q p k ]
           ]

@@ -19,7 +19,10 @@ impl Limits {
         ensures ends { λ r. ⌜ r .ends ≡ ends-needed k floor ⌝ }
         ensures shared { λ r. ⌜ r .shared ≡ shared-needed k floor ⌝ }
     {
-        Limits { ends: (floor + 1).saturating_sub(k), shared: (floor + 1).saturating_sub(2 * k) }
+        Limits {
+            ends: (floor + 1).saturating_sub(k),
+            shared: (floor + 1).saturating_sub(2 * k),
+        }
     }
 
     // Whether one of these numbers is too low: the agreements of either end, or the marks that both share.

@@ -61,7 +61,13 @@ fn note_pairs<S: Sheet>(sheet: &S, limits: Limits, u: u32, v: u32, pairs: &mut Q
 }
 
 // Strikes the agreement of two marks if it may not stay, and says whether it did.
-pub(crate) fn look_at_pair<S: Strike>(sheet: &mut S, limits: Limits, pair: Pair, marks: &mut Queue<u32>, pairs: &mut Queue<Pair>) -> bool
+pub(crate) fn look_at_pair<S: Strike>(
+    sheet: &mut S,
+    limits: Limits,
+    pair: Pair,
+    marks: &mut Queue<u32>,
+    pairs: &mut Queue<Pair>,
+) -> bool
     ensures looks { λ r. ⌜ Looks (limits .ends) (limits .shared) (S·Sheet .meaning (now (sheet .entry))) (pair .a) (pair .b) r (S·Sheet .meaning (now (sheet .exit))) ⌝ }
     ensures lasts { λ _. ⌜ S·Strike .lasting (now (sheet .exit)) ≡ S·Strike .lasting (now (sheet .entry)) ⌝ }
     ensures idle { λ r. ⌜ (r ≡ false → (now (sheet .exit) ≡ now (sheet .entry)) × (now (marks .exit) ≡ now (marks .entry)) × (now (pairs .exit) ≡ now (pairs .entry))) ⌝ }
@@ -78,7 +84,14 @@ pub(crate) fn look_at_pair<S: Strike>(sheet: &mut S, limits: Limits, pair: Pair,
 }
 
 // Looks at the agreements of mark i with other marks, and says whether one was struck.
-pub(crate) fn look_among<S: Strike>(sheet: &mut S, limits: Limits, i: u32, others: MarkSet, marks: &mut Queue<u32>, pairs: &mut Queue<Pair>) -> bool
+pub(crate) fn look_among<S: Strike>(
+    sheet: &mut S,
+    limits: Limits,
+    i: u32,
+    others: MarkSet,
+    marks: &mut Queue<u32>,
+    pairs: &mut Queue<Pair>,
+) -> bool
     ensures looks { λ r. ⌜ Looks-among (limits .ends) (limits .shared) (S·Sheet .meaning (now (sheet .entry))) i (members others) r (S·Sheet .meaning (now (sheet .exit))) ⌝ }
     ensures lasts { λ _. ⌜ S·Strike .lasting (now (sheet .exit)) ≡ S·Strike .lasting (now (sheet .entry)) ⌝ }
     ensures idle { λ r. ⌜ (r ≡ false → (now (sheet .exit) ≡ now (sheet .entry)) × (now (marks .exit) ≡ now (marks .entry)) × (now (pairs .exit) ≡ now (pairs .entry))) ⌝ }

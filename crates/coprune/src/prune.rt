@@ -20,7 +20,14 @@ use sheet::kinds::Strike;
 
 // Strikes the agreements that no k-plex of more than floor marks can use, and puts the marks that are left into a set.
 // What waits to be looked at again waits in the spaces, which may hold anything afterwards.
-pub fn co_prune<S: Strike>(sheet: &mut S, k: u32, floor: u32, left: &mut MarkSet, mark_space: &mut [u32], pair_space: &mut [Pair]) -> Result<u32, PruneRefusal>
+pub fn co_prune<S: Strike>(
+    sheet: &mut S,
+    k: u32,
+    floor: u32,
+    left: &mut MarkSet,
+    mark_space: &mut [u32],
+    pair_space: &mut [Pair],
+) -> Result<u32, PruneRefusal>
     ensures prunes { λ r. ⌜ Co-prunes (S·Sheet .meaning (now (sheet .entry))) k floor (length (now («mark_space» .entry))) (length (now («pair_space» .entry))) r (S·Sheet .meaning (now (sheet .exit))) (members (now (left .exit))) ⌝ }
     ensures lasts { λ _. ⌜ S·Strike .lasting (now (sheet .exit)) ≡ S·Strike .lasting (now (sheet .entry)) ⌝ }
     ensures unchanged { λ r. ⌜ (isOk r ≡ false → (now (sheet .exit) ≡ now (sheet .entry)) × (now (left .exit) ≡ now (left .entry)) × (now («mark_space» .exit) ≡ now («mark_space» .entry)) × (now («pair_space» .exit) ≡ now («pair_space» .entry))) ⌝ }
@@ -45,7 +52,12 @@ pub fn co_prune<S: Strike>(sheet: &mut S, k: u32, floor: u32, left: &mut MarkSet
 }
 
 // Strikes until no agreement is left that may not stay.
-fn strike_all<S: Strike>(sheet: &mut S, limits: Limits, mark_space: &mut [u32], pair_space: &mut [Pair])
+fn strike_all<S: Strike>(
+    sheet: &mut S,
+    limits: Limits,
+    mark_space: &mut [u32],
+    pair_space: &mut [Pair],
+)
     ensures marks { λ _. ⌜ S·Sheet .meaning (now (sheet .exit)) .marks ≡ S·Sheet .meaning (now (sheet .entry)) .marks ⌝ }
     ensures largest { λ _. ⌜ Largest (S·Sheet .meaning (now (sheet .entry)) .marks) (limits .ends) (limits .shared) (S·Sheet .meaning (now (sheet .entry)) .agrees) (S·Sheet .meaning (now (sheet .exit)) .agrees) ⌝ }
     ensures lasts { λ _. ⌜ S·Strike .lasting (now (sheet .exit)) ≡ S·Strike .lasting (now (sheet .entry)) ⌝ }

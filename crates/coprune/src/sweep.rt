@@ -16,7 +16,12 @@ use sheet::kinds::Sheet;
 use sheet::kinds::Strike;
 
 // Looks at every agreement once, at its lower mark, and says whether one was struck.
-pub(crate) fn sweep<S: Strike>(sheet: &mut S, limits: Limits, marks: &mut Queue<u32>, pairs: &mut Queue<Pair>) -> bool
+pub(crate) fn sweep<S: Strike>(
+    sheet: &mut S,
+    limits: Limits,
+    marks: &mut Queue<u32>,
+    pairs: &mut Queue<Pair>,
+) -> bool
     ensures sweeps { λ r. ⌜ Sweeps (limits .ends) (limits .shared) (S·Sheet .meaning (now (sheet .entry))) r (S·Sheet .meaning (now (sheet .exit))) ⌝ }
     ensures lasts { λ _. ⌜ S·Strike .lasting (now (sheet .exit)) ≡ S·Strike .lasting (now (sheet .entry)) ⌝ }
 {
@@ -33,7 +38,12 @@ pub(crate) fn sweep<S: Strike>(sheet: &mut S, limits: Limits, marks: &mut Queue<
 }
 
 // Looks at what has waited longest, a mark before a pair; says whether anything waited.
-fn look_at_next<S: Strike>(sheet: &mut S, limits: Limits, marks: &mut Queue<u32>, pairs: &mut Queue<Pair>) -> bool
+fn look_at_next<S: Strike>(
+    sheet: &mut S,
+    limits: Limits,
+    marks: &mut Queue<u32>,
+    pairs: &mut Queue<Pair>,
+) -> bool
     ensures wears { λ _. ⌜ Wears (limits .ends) (limits .shared) (S·Sheet .meaning (now (sheet .entry))) (S·Sheet .meaning (now (sheet .exit))) ⌝ }
     ensures lasts { λ _. ⌜ S·Strike .lasting (now (sheet .exit)) ≡ S·Strike .lasting (now (sheet .entry)) ⌝ }
     ensures falls { λ r. ⌜ (r ≡ true → work (S·Sheet .meaning (now (sheet .exit))) (now (marks .exit)) (now (pairs .exit)) < work (S·Sheet .meaning (now (sheet .entry))) (now (marks .entry)) (now (pairs .entry))) ⌝ }
@@ -51,7 +61,12 @@ fn look_at_next<S: Strike>(sheet: &mut S, limits: Limits, marks: &mut Queue<u32>
 }
 
 // Looks at all that waits, and at what comes to wait meanwhile.
-pub(crate) fn drain<S: Strike>(sheet: &mut S, limits: Limits, marks: &mut Queue<u32>, pairs: &mut Queue<Pair>)
+pub(crate) fn drain<S: Strike>(
+    sheet: &mut S,
+    limits: Limits,
+    marks: &mut Queue<u32>,
+    pairs: &mut Queue<Pair>,
+)
     ensures wears { λ _. ⌜ Wears (limits .ends) (limits .shared) (S·Sheet .meaning (now (sheet .entry))) (S·Sheet .meaning (now (sheet .exit))) ⌝ }
     ensures lasts { λ _. ⌜ S·Strike .lasting (now (sheet .exit)) ≡ S·Strike .lasting (now (sheet .entry)) ⌝ }
 {

@@ -10,11 +10,9 @@ ghost use Rattle.file.specs.Sheets.{pair-meaning, measured-meaning};
 // A pair sheet means what `PairSheet::read` says that it means.
 pub fn pair_sheet_means()
     ensures { λ _. ⌜ ((s : PairSheet) → pair-sheet .meaning s ≡ pair-meaning (now (s .words))) ⌝ }
-{
-}
+{}
 
 // A measured sheet means what `MeasuredSheet::read` says that it means.
 pub fn measured_sheet_means()
     ensures { λ _. ⌜ ((s : MeasuredSheet) → measured-sheet .meaning s ≡ measured-meaning (now (s .words))) ⌝ }
-{
-}
+{}

@@ -19,8 +19,7 @@ pub fn words_hold_sets()
 // What and, or and not do to the bits of words, and what setting or clearing a bit does to the marks.
 pub fn words_combine()
     ensures { λ _. ⌜ Words-combine ⌝ }
-{
-}
+{}
 
 // The rising list of a set has just its marks, in their order.
 pub fn lists_rise()

@@ -27,12 +27,12 @@ kept-on n a b r g h p q = record {
 pub offends-from : (n a b : ℕ) (g : Agreement) (i j : ℕ) → offends n a b g i j ≡ true → Offends n a b g i j
 offends-from n a b g i j e =
     elim (or-cases (ltb (card n (g i)) a) _ e) [
-      inl x ↦ inl (ltb-true (card n (g i)) a x)
-    | inr y ↦
-        elim (or-cases (ltb (card n (g j)) a) _ y) [
-          inl x ↦ inr (inl (ltb-true (card n (g j)) a x))
-        | inr x ↦ inr (inr (ltb-true (card n (g i ∩ g j)) b x))
-        ]
+      | inl x ↦ inl (ltb-true (card n (g i)) a x)
+      | inr y ↦
+          elim (or-cases (ltb (card n (g j)) a) _ y) [
+            | inl x ↦ inr (inl (ltb-true (card n (g j)) a x))
+            | inr x ↦ inr (inr (ltb-true (card n (g i ∩ g j)) b x))
+          ]
     ]
 
 pub offends-both-ways : (n a b : ℕ) (g : Agreement) (i j : ℕ) → offends n a b g i j ≡ offends n a b g j i

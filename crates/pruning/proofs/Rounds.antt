@@ -24,9 +24,10 @@ pub sum-strict : (n : ℕ) (f g : ℕ → ℕ) (u : ℕ) → ((i : ℕ) → f i 
 unfolding sum-to
 sum-strict zero f g u h l s = let z : ⊥ = omega arith in absurd z
 sum-strict (suc n) f g u h l s =
-    elim (cases-eq u n)
-      [ inl e ↦ let b : f n < g n = rw (← e) s in omega (arith, sum-mono n f g h)
-      | inr e ↦ omega (arith, sum-strict n f g u h (omega arith) s, h n) ]
+    elim (cases-eq u n) [
+      | inl e ↦ let b : f n < g n = rw (← e) s in omega (arith, sum-mono n f g h)
+      | inr e ↦ omega (arith, sum-strict n f g u h (omega arith) s, h n)
+    ]
 
 pub total-strict : (n : ℕ) (h g : Agreement) (u v : ℕ) → h ⊑ g → u < n → v < n → h u v ≡ false → g u v ≡ true → agreements-at-ends n h < agreements-at-ends n g
 total-strict n h g u v s lu lv f t =
@@ -58,18 +59,21 @@ module _ (n x y : ℕ) where
         let b′ = card-mono n (h j) (g j) (s j) in
         let c′ = card-mono n (h i ∩ h j) (g i ∩ g j) (λ m. let z = s i m in let y = s j m in grind arith) in
         and-from (g i j) _ (s i j t) (and-from (leb x (card n (g i))) _ (le-leb x (card n (g i)) (omega arith))
-          (and-from (leb x (card n (g j))) _ (le-leb x (card n (g j)) (omega arith)) (le-leb y (card n (g i ∩ g j)) (omega arith))))
+        (and-from (leb x (card n (g j))) _ (le-leb x (card n (g j)) (omega arith)) (le-leb y (card n (g i ∩ g j)) (omega arith))))
 
     round-good : Two-way g → g ⊑ (round g) → Good n x y (round g)
     round-good s u = record {
       both = round-both s;
       ends = λ i j t.
-        let e = and-parts (g i j) _ t .1 in
-        omega (arith, leb-true x (card n (g i)) (and-parts (leb x (card n (g i))) _ e .0), card-mono n (g i) (round g i) (u i));
+          let e = and-parts (g i j) _ t .1 in
+          omega (arith, leb-true x (card n (g i)) (and-parts (leb x (card n (g i))) _ e .0), card-mono n (g i) (round g i) (u i));
       share = λ i j t.
-        let e = and-parts (leb x (card n (g i))) _ (and-parts (g i j) _ t .1) .1 in
-        omega (arith, leb-true y (card n (g i ∩ g j)) (and-parts (leb x (card n (g j))) _ e .1),
-          card-mono n (g i ∩ g j) (round g i ∩ round g j) (λ m. let z = u i m in let y = u j m in grind arith));
+          let e = and-parts (leb x (card n (g i))) _ (and-parts (g i j) _ t .1) .1 in
+          omega (
+            arith,
+            leb-true y (card n (g i ∩ g j)) (and-parts (leb x (card n (g j))) _ e .1),
+            card-mono n (g i ∩ g j) (round g i ∩ round g j) (λ m. let z = u i m in let y = u j m in grind arith),
+          );
     }
 
   prune-part : (m : ℕ) (g : Agreement) → Among n g → (rounds m n x y g) ⊑ g
@@ -89,24 +93,28 @@ module _ (n x y : ℕ) where
       let u = prune-most m g g w p (λ _ _ t. t) in record {
         both = λ i j t. u j i (p .both i j (d i j t));
         ends = λ i j t. omega (arith, p .ends i j (d i j t), card-mono n (g i) (rounds m n x y g i) (u i));
-        share = λ i j t. omega (arith, p .share i j (d i j t),
-          card-mono n (g i ∩ g j) (rounds m n x y g i ∩ rounds m n x y g j) (λ m. let z = u i m in let y = u j m in grind arith));
+        share = λ i j t. omega (
+          arith,
+          p .share i j (d i j t),
+          card-mono n (g i ∩ g j) (rounds m n x y g i ∩ rounds m n x y g j) (λ m. let z = u i m in let y = u j m in grind arith),
+        );
       }
 
   none-good : (g : Agreement) → Among n g → agreements-at-ends n g ≤ 0 → Good n x y g
   none-good g w l =
       let out : (i j : ℕ) → g i j ≡ true → ⊥ = λ i j t.
-        omega (arith, total-strict n (λ _ _. false) g i j (λ _ _ e. absurd (false≢true e)) (w i j t .0) (w i j t .1) refl t) in
+      omega (arith, total-strict n (λ _ _. false) g i j (λ _ _ e. absurd (false≢true e)) (w i j t .0) (w i j t .1) refl t) in
       record { both = λ i j t. absurd (out i j t); ends = λ i j t. absurd (out i j t); share = λ i j t. absurd (out i j t) }
 
   prune-good : (m : ℕ) (g : Agreement) → Among n g → Two-way g → agreements-at-ends n g ≤ m → Good n x y (rounds m n x y g)
   unfolding rounds
   prune-good zero g w s l = none-good g w l
   prune-good (suc m) g w s l =
-      elim (cases-lt (agreements-at-ends n (round g)) (agreements-at-ends n g))
-        [ inl e ↦ prune-good m (round g) (round-between g w) (round-both g w s) (omega arith)
+      elim (cases-lt (agreements-at-ends n (round g)) (agreements-at-ends n g)) [
+        | inl e ↦ prune-good m (round g) (round-between g w) (round-both g w s) (omega arith)
         | inr e ↦ good-stays m (round g) (round-between g w) (round-good g w s (λ i j t. elim (cases-bool (round g i j))
-            [ inl b ↦ b | inr b ↦ let z : ⊥ = omega (arith, total-strict n (round g) g i j (round-part g w) (w i j t .0) (w i j t .1) b t) in absurd z ])) ]
+            [ inl b ↦ b | inr b ↦ let z : ⊥ = omega (arith, total-strict n (round g) g i j (round-part g w) (w i j t .0) (w i j t .1) b t) in absurd z ]))
+      ]
 
   pub prune-is : (m : ℕ) (g : Agreement) → Among n g → Two-way g → agreements-at-ends n g ≤ m → Largest n x y g (rounds m n x y g)
   prune-is m g w s l = record { good = prune-good m g w s l; part = prune-part m g w; most = λ h p u. prune-most m g h w p u }

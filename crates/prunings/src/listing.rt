@@ -8,7 +8,9 @@ pub struct Listing {
 
 impl Listing {
     pub fn empty() -> Listing {
-        Listing { agrees: [[false; 12]; 12] }
+        Listing {
+            agrees: [[false; 12]; 12],
+        }
     }
 
     // Sets the agreement of two different marks.
@@ -59,7 +61,11 @@ impl Listing {
         let mut next = *self;
         for i in 0..12 {
             for j in 0..12 {
-                if self.has(i, j) && (self.degree(i) < ends || self.degree(j) < ends || self.shared(i, j) < shared) {
+                if self.has(i, j)
+                    && (self.degree(i) < ends
+                        || self.degree(j) < ends
+                        || self.shared(i, j) < shared)
+                {
                     next.set(i, j, false);
                 }
             }

@@ -29,7 +29,11 @@ fn pruned<S: Strike>(table: &mut S, k: u32, floor: u32, must: &Listing) -> Left 
     let mut marks = [0; 128];
     let mut pairs = [Pair { a: 0, b: 0 }; 66];
     let answer = co_prune(table, k, floor, &mut left, &mut marks, &mut pairs);
-    let mut found = Left { agreements: 0, marks: left.count(), differs: answer.is_err() };
+    let mut found = Left {
+        agreements: 0,
+        marks: left.count(),
+        differs: answer.is_err(),
+    };
     for i in 0..12u32 {
         for j in i..12u32 {
             let there = table.agree(i, j);
@@ -46,14 +50,22 @@ fn pruned<S: Strike>(table: &mut S, k: u32, floor: u32, must: &Listing) -> Left 
 
 // Co-prunes a sheet in both kinds of table: how many agreements and marks are left, if both are as the listing says.
 fn left_of<S: Sheet>(sheet: &S, all: &Listing, k: u32, floor: u32) -> Option<Left> {
-    let ends = (floor as usize).saturating_add(1).saturating_sub(k as usize);
-    let shared = (floor as usize).saturating_add(1).saturating_sub((k as usize).saturating_mul(2));
+    let ends = (floor as usize)
+        .saturating_add(1)
+        .saturating_sub(k as usize);
+    let shared = (floor as usize)
+        .saturating_add(1)
+        .saturating_sub((k as usize).saturating_mul(2));
     let must = all.pruned(ends, shared);
     let mut bits = BitTable::copy_of(sheet);
     let in_bits = pruned(&mut bits, k, floor, &must);
     if let Ok(mut pairs) = PairTable::copy_of(sheet) {
         let in_pairs = pruned(&mut pairs, k, floor, &must);
-        if !in_bits.differs && !in_pairs.differs && in_pairs.agreements == in_bits.agreements && in_pairs.marks == in_bits.marks {
+        if !in_bits.differs
+            && !in_pairs.differs
+            && in_pairs.agreements == in_bits.agreements
+            && in_pairs.marks == in_bits.marks
+        {
             return Some(in_bits);
         }
     }
@@ -73,7 +85,14 @@ fn show(rt: &LibcRuntime, left: Option<Left>) -> io::Result<()> {
 }
 
 // Enters the agreements of a listing, and prints what co-pruning leaves for each floor from the first to the last.
-fn entered(rt: &LibcRuntime, marks: u32, all: &Listing, k: u32, first: u32, last: u32) -> io::Result<()> {
+fn entered(
+    rt: &LibcRuntime,
+    marks: u32,
+    all: &Listing,
+    k: u32,
+    first: u32,
+    last: u32,
+) -> io::Result<()> {
     let mut words = [0; 12];
     if let Ok(mut entry) = Entry::begin(&mut words, marks) {
         for i in 0..12u32 {
@@ -151,7 +170,14 @@ fn number(k: u32, floor: u32, mark_places: usize, pair_places: usize) -> u32 {
             let _ = entry.enter(0, 1);
             let _ = entry.enter(1, 2);
             let mut table = BitTable::copy_of(&entry.seal());
-            match co_prune(&mut table, k, floor, &mut left, &mut marks[0..mark_places.min(5)], &mut pairs[0..pair_places.min(2)]) {
+            match co_prune(
+                &mut table,
+                k,
+                floor,
+                &mut left,
+                &mut marks[0..mark_places.min(5)],
+                &mut pairs[0..pair_places.min(2)],
+            ) {
                 Ok(n) => n,
                 Err(refusal) => refusal.number(),
             }
@@ -168,5 +194,8 @@ pub fn refusals(rt: &LibcRuntime) -> io::Result<()> {
     let few_marks = number(1, 129, 4, 1);
     let few_pairs = number(1, 129, 5, 1);
     let floor = number(1, 129, 5, 2);
-    println!(rt, "accepted {accepted}, k 0 {low}, k 17 {high}, 4 places for marks {few_marks}, 1 for pairs {few_pairs}, floor 129 {floor}")
+    println!(
+        rt,
+        "accepted {accepted}, k 0 {low}, k 17 {high}, 4 places for marks {few_marks}, 1 for pairs {few_pairs}, floor 129 {floor}"
+    )
 }

@@ -41,7 +41,10 @@ fn time(rt: &LibcRuntime, tenths: u32, k: u32, floor: u32) -> io::Result<()> {
         let _ = co_prune(&mut table, k, floor, &mut left, &mut marks, &mut pairs);
         let took = start.elapsed(rt)?.as_micros();
         let count = left.count();
-        println!(rt, "{tenths} tenths, k {k}, floor {floor}: {took} microseconds, {count} marks left")?;
+        println!(
+            rt,
+            "{tenths} tenths, k {k}, floor {floor}: {took} microseconds, {count} marks left"
+        )?;
     }
     Ok(())
 }

@@ -91,8 +91,8 @@ module _ (ws : List ℕ) (n i j : ℕ) (hi : i < n) (hj : j < n) (room : n * row
   pub bit-entered-spare : (p q : ℕ) → (q ≡ j → ⊥) → bit-of (bit-entered ws (row-words n) i j) (row-words n) p q ≡ bit-of ws (row-words n) p q
   bit-entered-spare p q other =
       elim (cases-lt (q / 32) (row-words n)) [
-        inl l ↦ bit-entered-at p q l ∙ ap (λ b. bit-of ws (row-words n) p q || (eqb p i && b)) (ne-eqb q j other) ∙ none (bit-of ws (row-words n) p q) (eqb p i)
-      | inr l ↦ past-row (bit-entered ws (row-words n) i j) (row-words n) p q l ∙ sym (past-row ws (row-words n) p q l)
+        | inl l ↦ bit-entered-at p q l ∙ ap (λ b. bit-of ws (row-words n) p q || (eqb p i && b)) (ne-eqb q j other) ∙ none (bit-of ws (row-words n) p q) (eqb p i)
+        | inr l ↦ past-row (bit-entered ws (row-words n) i j) (row-words n) p q l ∙ sym (past-row ws (row-words n) p q l)
       ]
     where
       none : (x y : Bool) → (x || (y && false)) ≡ x

@@ -1,21 +1,21 @@
 -- Striking one pair in a table of pairs.
-use mathlib.Core.Path.{_≡_, refl, sym, ap, ap₂, _∙_, fun-ext}
-use mathlib.Core.Logic.{_⊎_, inl, inr}
+use mathlib.Core.Path.{_≡_, sym, ap, _∙_, fun-ext}
+use mathlib.Core.Logic.{inl, inr}
 use mathlib.Core.Bool.{Bool, true, false, not, _&&_, _||_}
 use mathlib.Core.List.{List, [], _∷_, map}
-use Prim.Native.Nat.{ℕ, zero, suc, _+_, _*_, _/_, _^_, _≤_, _<_, min, max}
+use Prim.Native.Nat.{ℕ, zero, suc, _+_, _/_, _^_, _≤_, _<_, min, max}
 use native.Mathlib.Omega.{arith}
 use lib.Dec.{eqb, ltb}
 use lib.ListN.{length, getD, set}
 use Rattle.std.proofs.shelf.Lists.{getD-set-same, getD-set-other}
-use Rattle.std.proofs.shelf.Tests.{cases-eq, cases-lt, cases-order}
+use Rattle.std.proofs.shelf.Tests.{cases-eq, cases-lt}
 use Rattle.std.proofs.shelf.Ways.{tells}
-use Rattle.plex.specs.Sets.{Agreement, among, struck}
+use Rattle.plex.specs.Sets.{Agreement, struck}
 use Rattle.plex.specs.Meaning.{agree-by}
 use Rattle.fileword.specs.Layout.{kind, load, upper, lower, pair-word}
 use Rattle.fileword.proofs.ReadBack.{pair-word-equal}
 use Rattle.tables.specs.Pairs.{pair-or-struck, stands, out-of-order, names}
-use Rattle.tables.proofs.Among.{among-at, among-changed}
+use Rattle.tables.proofs.Among.{among-changed}
 use Rattle.tables.proofs.Places.{stands-pair, stands-zero, stands-from, in-order, ordered-from, one-place}
 
 -- the word of a struck pair: kind 14 in place of 2
@@ -41,9 +41,6 @@ loads-kept (w ∷ ws) (suc p) v l e = ap (λ xs. load w ∷ xs) (loads-kept ws p
 
 module _ (ws : List ℕ) (len n at w : ℕ) (few : n ≤ 128) (l : at < len) (m : at < length ws) (is : getD ws at 0 ≡ w) (two : kind w ≡ 2)
     (each : (p : ℕ) → stands ws len n p ≡ true) (rising : (p q : ℕ) → out-of-order ws len p q ≡ false) where
-  new : List ℕ
-  new = set ws at (struck-word w)
-
   same-load : (p : ℕ) → load (getD (set ws at (struck-word w)) p 0) ≡ load (getD ws p 0)
   same-load p =
       elim (cases-eq p at) [

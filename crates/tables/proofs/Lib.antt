@@ -3,3 +3,4 @@ pub mod Among
 pub mod PairLists
 pub mod Places
 pub mod Changing
+pub mod Determined

@@ -1,11 +1,11 @@
 -- The list of the words of all pairs: how long it is, that it rises, and what is among it.
-use mathlib.Core.Path.{_≡_, refl, sym, ap, ap₂, _∙_, fun-ext}
-use mathlib.Core.Logic.{_⊎_, inl, inr}
+use mathlib.Core.Path.{_≡_, refl, sym, ap, ap₂, _∙_}
+use mathlib.Core.Logic.{inl, inr}
 use mathlib.Core.Bool.{Bool, true, false, not, _&&_, _||_}
 use mathlib.Core.List.{List, [], _∷_, _++_, map, append-assoc, append-nil, map-append}
-use Prim.Native.Nat.{ℕ, zero, suc, _+_, _-_, _*_, _/_, _%_, _^_, _≤_, _<_}
+use Prim.Native.Nat.{ℕ, zero, suc, _+_, _-_, _*_, _^_, _≤_, _<_}
 use native.Mathlib.Omega.{arith}
-use lib.Dec.{eqb, ltb}
+use lib.Dec.{ltb}
 use native.Mathlib.Numerals.{add-one}
 use lib.ListN.{length, getD, length-append}
 use Rattle.std.specs.shelf.Lists.{All}
@@ -14,6 +14,7 @@ use Rattle.std.proofs.shelf.Lists.{length-map, getD-map, getD-append-left, getD
 use Rattle.std.proofs.shelf.Tests.{cases-lt, or-left, or-right}
 use Rattle.std.proofs.shelf.Ways.{tells}
 use Rattle.plex.specs.Sets.{Set, Agreement, one-if, card, among, below, if-in, rising, _∖_}
+use Rattle.plex.specs.Words.{holds}
 use Rattle.plex.specs.Meaning.{agree-by}
 use Rattle.plex.proofs.Rising.{length-rising, rising-within, rising-all, rising-rises, rising-none}
 use Rattle.pruning.specs.Pruned.{sum-to, agreements}
@@ -241,5 +242,14 @@ sum-part (suc n) i f l =
       | inr h ↦ (let e : i ≡ n = omega arith in omega (arith, ap f e, ap (λ k. sum-to k f) e))
     ]
 
-pub pairs-too-long : (xs : List ℕ) (i n : ℕ) (r : Agreement) → xs ≡ pairs-to i n r → i < n → 4096 < length xs + higher n r i → 4096 < agreements n r
-pairs-too-long xs i n r e l h = omega (arith, ap length e, length-pairs i n r, sum-part n i (higher n r) l)
+-- one row more, by the words of a row that was read
+module _ (xs : List ℕ) (i n : ℕ) (r : Agreement) (us ws : List ℕ) (is : xs ≡ pairs-to i n r) (read : us ≡ ws) (row : holds ws ≡ r i) where
+  same : holds us ≡ r i
+  same = ap holds read ∙ row
+
+  pub pairs-step : (ys : List ℕ) → ys ≡ xs ++ row-pairs i n (holds us) → ys ≡ pairs-to (i + 1) n r
+  pairs-step ys e = e ∙ ap₂ (λ zs t. zs ++ row-pairs i n t) is same ∙ sym (pairs-more i n r)
+
+  pub pairs-too-long : (k : ℕ) → n ≡ k → i < n → 4096 < length xs + card n (holds us ∖ below (i + 1)) → 4096 < agreements k r
+  pairs-too-long k e l h =
+      rw (← e) (omega (arith, ap (λ t. card n (t ∖ below (i + 1))) same, ap length is, length-pairs i n r, sum-part n i (higher n r) l))

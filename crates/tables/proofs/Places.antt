@@ -1,27 +1,28 @@
 -- The places of a table of pairs.
-use mathlib.Core.Path.{_≡_, refl, sym, ap, ap₂, _∙_, fun-ext}
+use mathlib.Core.Path.{_≡_, sym, ap, _∙_, fun-ext}
 use mathlib.Core.Logic.{_⊎_, inl, inr}
 use mathlib.Core.Bool.{Bool, true, false, cond, not, _&&_, _||_}
-use mathlib.Core.List.{List, [], _∷_, _++_, map}
-use Prim.Native.Nat.{ℕ, zero, suc, _+_, _-_, _*_, _/_, _%_, _^_, _≤_, _<_}
+use mathlib.Core.List.{List}
+use Prim.Native.Nat.{ℕ, _+_, _≤_, _<_}
 use native.Mathlib.Omega.{arith}
 use lib.Dec.{eqb, leb, ltb}
-use lib.ListN.{length, getD, take, set, replicate, length-set, length-take, length-replicate}
+use lib.ListN.{length, getD, take, set, replicate, length-take, length-replicate}
 use lib.Seq.{getD-take}
 use Rattle.std.specs.Options.{isSome}
 use Rattle.std.specs.declared.option.Option.{Option}
 use Rattle.std.specs.declared.option.Option.the-variants.{Some, None}
 use Rattle.std.proofs.shelf.Elements.{all-getD}
-use Rattle.std.proofs.shelf.Lists.{getD-set-same, getD-set-other, getD-past, getD-replicate}
-use Rattle.std.proofs.shelf.Tests.{cases-eq, cases-lt, cases-order, eqb-true}
+use Rattle.std.proofs.shelf.Lists.{getD-set-other, getD-past, getD-replicate}
+use Rattle.std.proofs.shelf.Tests.{cases-lt, cases-order, eqb-true}
 use Rattle.std.proofs.shelf.Ways.{tells}
-use Rattle.plex.specs.Sets.{Set, Agreement, among}
+use Rattle.plex.specs.Sets.{Agreement, among}
 use Rattle.plex.specs.Meaning.{agree-by}
+use Rattle.pruning.specs.Pruned.{agreements}
 use Rattle.fileword.specs.Layout.{kind, load, upper, lower, pair-word}
 use Rattle.tables.specs.Pairs.{pair-or-struck, stands, out-of-order, left-over, names, pairs-to}
-use Rattle.tables.specs.Copying.{Parts, Found}
-use Rattle.tables.proofs.Among.{among-at, among-place, among-front, test-fails}
-use Rattle.tables.proofs.PairLists.{Pair-of, pairs-good, pairs-rise}
+use Rattle.tables.specs.Lookup.{Parts, Found}
+use Rattle.tables.proofs.Among.{among-at, among-place, among-front, test-fails, agree-same}
+use Rattle.tables.proofs.PairLists.{Pair-of, length-pairs, pairs-good, pairs-rise, pairs-name}
 
 -- what the tests of a place say
 pub stands-pair : (ws : List ℕ) (len n p : ℕ) → stands ws len n p ≡ true → p < len → pair-or-struck n (getD ws p 0) ≡ true
@@ -87,9 +88,15 @@ blank-pushed ws len w p h =
     blank-from (set ws len w) (len + 1) p (λ l.
     getD-set-other ws len p w 0 (λ e. omega arith) ∙ blank-at ws len p (h p) (omega arith))
 
--- the table that a list of pairs makes
-module _ (ws : List ℕ) (len n : ℕ) (r : Agreement) (few : n ≤ 128) (room : len ≤ length ws) (is : take len ws ≡ pairs-to n n r)
+-- the table that a list of the pairs among k marks makes
+module _ (ws : List ℕ) (len n k : ℕ) (r : Agreement) (marks : n ≡ k) (few : k ≤ 128) (room : len ≤ length ws) (listed : take len ws ≡ pairs-to k k r)
     (blank : (p : ℕ) → left-over ws len p ≡ false) where
+  is : take len ws ≡ pairs-to n n r
+  is = listed ∙ ap (λ m. pairs-to m m r) (sym marks)
+
+  under : n ≤ 128
+  under = omega arith
+
   long : length (pairs-to n n r) ≡ len
   long = ap length (sym is) ∙ simp length-take (omega arith)
 
@@ -97,7 +104,10 @@ module _ (ws : List ℕ) (len n : ℕ) (r : Agreement) (few : n ≤ 128) (room :
   here p l = sym (getD-take len ws p 0 l) ∙ ap (λ xs. getD xs p 0) is
 
   good : (p : ℕ) → p < len → Pair-of r 0 n n (getD (pairs-to n n r) p 0)
-  good p l = all-getD (Pair-of r 0 n n) (pairs-to n n r) p 0 (omega (arith, long)) (pairs-good r n n (omega arith) few)
+  good p l = all-getD (Pair-of r 0 n n) (pairs-to n n r) p 0 (omega (arith, long)) (pairs-good r n n (omega arith) under)
+
+  pub made-fits : agreements k r ≡ len
+  made-fits = sym (length-pairs k k r) ∙ ap length (sym listed) ∙ simp length-take (omega arith)
 
   pub made-each : (p : ℕ) → stands ws len n p ≡ true
   made-each p =
@@ -114,7 +124,7 @@ module _ (ws : List ℕ) (len n : ℕ) (r : Agreement) (few : n ≤ 128) (room :
   pub made-rising : (p q : ℕ) → out-of-order ws len p q ≡ false
   made-rising p q =
       ordered-from ws len p q (λ l m.
-      omega (arith, ap load (here p (omega arith)), ap load (here q m), pairs-rise r n n (omega arith) few p q l (omega (arith, long))))
+      omega (arith, ap load (here p (omega arith)), ap load (here q m), pairs-rise r n n (omega arith) under p q l (omega (arith, long))))
 
   pub made-fresh : (p : ℕ) → (getD ws p 0 ≡ 0) ⊎ (kind (getD ws p 0) ≡ 2)
   made-fresh p =
@@ -123,9 +133,13 @@ module _ (ws : List ℕ) (len n : ℕ) (r : Agreement) (few : n ≤ 128) (room :
         | inr l ↦ inl (blank-at ws len p (blank p) l)
       ]
 
-  pub made-names : (a b : ℕ) → names ws a b ≡ names (pairs-to n n r) a b
+  made-names : (a b : ℕ) → names ws a b ≡ names (pairs-to n n r) a b
   made-names a b =
       sym (among-front ws len (pair-word a b) room (omega arith) (λ p l. blank-at ws len p (blank p) l)) ∙ ap (λ xs. among xs (pair-word a b)) is
+
+  pub made-agrees : ((i j : ℕ) → r i j ≡ r j i) → ((i : ℕ) → r i i ≡ false) → ((i j : ℕ) → k ≤ i → r i j ≡ false) → agree-by n (names ws) ≡ r
+  made-agrees both self inside =
+      fun-ext (agree-same n (names ws) (names (pairs-to n n r)) made-names) ∙ fun-ext (λ i. fun-ext (pairs-name n r under both self (λ i j h. inside i j (omega arith)) i))
 
 -- looking up by halves
 module _ (ws : List ℕ) (len : ℕ) (rises : (p q : ℕ) → out-of-order ws len p q ≡ false) where

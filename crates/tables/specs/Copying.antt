@@ -1,18 +1,16 @@
--- What it is to copy a sheet into a table of pairs, and to look a pair up there. Assumes nothing.
+-- What it is to copy a sheet into a table of pairs. Assumes nothing.
 use mathlib.Core.Path.{_≡_}
 use mathlib.Core.Logic.{_⊎_}
 use mathlib.Core.Bool.{Bool, true, false}
 use mathlib.Core.List.{List, [], _∷_, _++_}
 use Prim.Native.Nat.{ℕ, _+_, _≤_, _<_}
 use lib.ListN.{length, getD, take}
-use Rattle.std.specs.declared.option.Option.{Option}
-use Rattle.std.specs.declared.option.Option.the-variants.{Some, None}
 use Rattle.std.specs.declared.result.Result.{Result}
 use Rattle.std.specs.declared.result.Result.the-variants.{Ok, Err}
-use Rattle.plex.specs.Sets.{Set, Agreement, among, card, below, none, only, _∖_}
+use Rattle.plex.specs.Sets.{Set, card, below, _∖_}
 use Rattle.plex.specs.Meaning.{Meaning}
 use Rattle.pruning.specs.Pruned.{agreements}
-use Rattle.fileword.specs.Layout.{kind, load}
+use Rattle.fileword.specs.Layout.{kind}
 use Rattle.tables.specs.Pairs.{row-pairs, pairs-to}
 use Rattle.tables.specs.Meanings.{pair-table-meaning}
 use Rattle.tables.specs.declared.pairs.PairTable.{PairTable}
@@ -51,19 +49,3 @@ Row-added xs i n s r ys = (r ≡ true → ys ≡ xs ++ row-pairs i n s) × (r �
 abbrev pub Listed : Meaning → Result PairList TooManyAgreements → Type 0
 Listed m (Ok l) = listed l ≡ pairs-to (m .marks) (m .marks) (m .agrees)
 Listed m (Err e) = 4096 < agreements (m .marks) (m .agrees)
-
--- place r parts the first len words: their loads are below l before it, and not from it on
-pub record Parts (ws : List ℕ) (len l r : ℕ) : Type 0 where
-  pub within : r ≤ len
-  pub before : (p : ℕ) → p < r → load (getD ws p 0) < l
-  pub after : (p : ℕ) → r ≤ p → p < len → l ≤ load (getD ws p 0)
-
--- a word is looked up among the first len of the words
-abbrev pub Found : List ℕ → ℕ → ℕ → Option ℕ → Type 0
-Found ws len w None = among ws w ≡ false
-Found ws len w (Some p) = (p < len) × (p < length ws) × (getD ws p 0 ≡ w)
-
--- the set is empty, or has just the one mark
-abbrev pub Is-just : Set → Option ℕ → Type 0
-Is-just s None = s ≡ none
-Is-just s (Some u) = (u < 128) × (s ≡ only u)

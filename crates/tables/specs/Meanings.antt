@@ -1,16 +1,17 @@
 -- What each table means. Assumes nothing.
 use mathlib.Core.Path.{sym, ap, _∙_}
 use mathlib.Core.Bool.{_&&_}
-use Rattle.std.proofs.shelf.Tests.{le-leb}
 use mathlib.Core.List.{List, map}
 use Prim.Native.Nat.{ℕ}
+use Rattle.std.proofs.shelf.Tests.{le-leb}
 use Rattle.plex.specs.Meaning.{Meaning, meaning-by}
 use Rattle.fileword.specs.Layout.{load}
 use Rattle.tables.specs.Bits.{bit-agrees}
 use Rattle.tables.specs.Pairs.{names}
-use Rattle.tables.specs.declared.pairs.PairTable.{PairTable}
 use Rattle.tables.specs.declared.bits.BitTable.{BitTable}
+use Rattle.tables.specs.declared.pairs.PairTable.{PairTable}
 
+-- two marks agree if the row of one holds the other
 abbrev pub bit-meaning : BitTable → Meaning
 bit-meaning t = record {
   marks = t .marks;

@@ -22,6 +22,6 @@ pub struct PairTable {
 pub struct TooManyAgreements;
 
 pub mod copying;
-pub mod listing;
-pub mod lookup;
+mod listing;
+mod lookup;
 pub mod questions;

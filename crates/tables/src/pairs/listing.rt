@@ -13,4 +13,4 @@ pub(crate) struct PairList {
     ghost blank: { (p : ℕ) → left-over words len p ≡ false },
 }
 
-pub mod calls;
+mod calls;

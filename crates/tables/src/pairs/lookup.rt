@@ -2,7 +2,7 @@
 ghost use mathlib.Core.Path.{_≡_};
 ghost use Prim.Native.Nat.{_<_};
 ghost use Rattle.tables.specs.Pairs.{names};
-ghost use Rattle.tables.specs.Copying.{Parts, Found};
+ghost use Rattle.tables.specs.Lookup.{Parts, Found};
 use super::PairTable;
 use fileword::layout::load_of;
 use fileword::layout::word_of_pair;

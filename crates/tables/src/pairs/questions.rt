@@ -1,7 +1,7 @@
 // A table of pairs is a sheet, and can be struck.
 ghost use Prim.Native.Nat.{_≤_};
 ghost use Rattle.tables.specs.Pairs.{paired};
-ghost use Rattle.tables.specs.Copying.{Is-just};
+ghost use Rattle.tables.specs.Lookup.{Is-just};
 ghost use Rattle.tables.specs.Meanings.{pair-table-meaning, loads};
 use super::PairTable;
 use fileword::layout::kind_of;
@@ -11,6 +11,9 @@ use fileword::layout::word_of_pair;
 use marks::set::MarkSet;
 use sheet::kinds::Sheet;
 use sheet::kinds::Strike;
+
+// What striking adds to the word of a pair: its kind, 2, becomes 14.
+const STRUCK: u32 = 0xC000_0000;
 
 // The mark that a word pairs with mark i, if it is the word of a pair of two marks.
 fn partner(word: u32, marks: u32, i: u32) -> Option<u32>
@@ -61,7 +64,7 @@ pub impl Strike for PairTable as PairTableStrike {
         let word = word_of_pair(i.min(j), i.max(j));
         match self.find(word) {
             Some(at) => {
-                self.words[at] = word + 0xC000_0000;
+                self.words[at] = word + STRUCK;
                 true
             }
             None => false,

@@ -19,8 +19,11 @@ loop-marks-holds g c = (wears-self (c .args .limits .ends) (c .args .limits .sha
 pub loop-marks-less : need.loop-marks-less
 loop-marks-less g c =
     let mean = g .S·Sheet .meaning in
-    omega (arith, c .sweep .ensures .sweeps .fewer (c .loop-marks-test .taken),
-      wears-fewer (c .args .limits .ends) (c .args .limits .shared) (mean (c .sweep .last .sheet)) (mean (c .drain .last .sheet)) (c .drain .ensures .wears))
+    omega (
+      arith,
+      c .sweep .ensures .sweeps .fewer (c .loop-marks-test .taken),
+      wears-fewer (c .args .limits .ends) (c .args .limits .shared) (mean (c .sweep .last .sheet)) (mean (c .drain .last .sheet)) (c .drain .ensures .wears),
+    )
 
 pub loop-marks-again : need.loop-marks-again
 loop-marks-again g c =
@@ -30,9 +33,10 @@ loop-marks-again g c =
     let m = mean (c .args .sheet .now) in
     let m₁ = mean (c .loop-marks .sheet) in
     let m₂ = mean (c .sweep .last .sheet) in
-    let m₃ = mean (c .drain .last .sheet) in
-    (wears-on a b m m₂ m₃ (wears-on a b m m₁ m₂ (c .loop-marks .inv .0) (c .sweep .ensures .sweeps .wears)) (c .drain .ensures .wears),
-    c .drain .ensures .lasts ∙ c .sweep .ensures .lasts ∙ c .loop-marks .inv .1)
+    let m₃ = mean (c .drain .last .sheet) in (
+      wears-on a b m m₂ m₃ (wears-on a b m m₁ m₂ (c .loop-marks .inv .0) (c .sweep .ensures .sweeps .wears)) (c .drain .ensures .wears),
+      c .drain .ensures .lasts ∙ c .sweep .ensures .lasts ∙ c .loop-marks .inv .1,
+    )
 
 pub returns : need.returns
 returns g c =

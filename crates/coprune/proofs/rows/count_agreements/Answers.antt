@@ -27,7 +27,7 @@ loop-i-again g c =
     let k : i < 128 = omega (arith, c .marks-i-end .ensures, m .few) in
     let seen = c .with-seen .ensures .inside k ∙ ap (λ s. s ∪ only i) (c .loop-i .inv .0) ∙ seen-more i in
     let here : c .count-count .result ≡ f i =
-        c .count-count .ensures ∙ ap (card 128) (c .minus .ensures ∙ ap₂ _∖_ (c .neighbours .ensures .set) seen) ∙ minus-count m i (below (i + 1)) in
+    c .count-count .ensures ∙ ap (card 128) (c .minus .ensures ∙ ap₂ _∖_ (c .neighbours .ensures .set) seen) ∙ minus-count m i (below (i + 1)) in
     (seen, omega (arith, c .loop-i .inv .1, here, sum-more i f))
 
 pub returns : need.returns

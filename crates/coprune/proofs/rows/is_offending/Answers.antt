@@ -13,5 +13,5 @@ returns g c =
     let of-i = c .count .ensures ∙ c .neighbours-of-i .ensures .number in
     let of-j = c .count-2 .ensures ∙ c .neighbours-of-j .ensures .number in
     let both = c .count-3 .ensures ∙ ap (card 128) (c .and .ensures ∙ ap₂ _∩_ (c .neighbours-of-i .ensures .set) (c .neighbours-of-j .ensures .set))
-      ∙ shared-count m (c .args .i) (c .args .j) in
+    ∙ shared-count m (c .args .i) (c .args .j) in
     c .unmet .ensures ∙ ap₂ _||_ (ap (λ x. ltb x a) of-i) (ap₂ _||_ (ap (λ x. ltb x a) of-j) (ap (λ x. ltb x b) both))

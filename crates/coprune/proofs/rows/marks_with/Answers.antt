@@ -26,14 +26,14 @@ loop-i-again g c =
     let in-sheet : i < n = omega (arith, c .marks-i-end .ensures) in
     let number = c .count .ensures ∙ c .neighbours .ensures .number in
     elim (c .if-count-ends .came) [
-      then-count-ends w ↦
-        (let k : i < 128 = omega (arith, m .few) in
-        let enough : a ≤ card n (m .agrees i) = omega (arith, number, w .if-count-ends .taken) in
-        ap members (w .left-is) ∙ w .with-left .ensures .inside k ∙ ap (λ t. t ∪ only i) (c .loop-i .inv)
-        ∙ below-takes s i (and-from (ltb i n) _ (lt-ltb i n in-sheet) (le-leb a (card n (m .agrees i)) enough)))
-    | else-count-ends w ↦
-        (let few : card n (m .agrees i) < a = omega (arith, number, w .if-count-ends .left) in
-        ap members (w .left-is) ∙ c .loop-i .inv ∙ below-skips s i (and-right (ltb i n) _ (lt-leb a (card n (m .agrees i)) few)))
+      | then-count-ends w ↦
+          (let k : i < 128 = omega (arith, m .few) in
+          let enough : a ≤ card n (m .agrees i) = omega (arith, number, w .if-count-ends .taken) in
+          ap members (w .left-is) ∙ w .with-left .ensures .inside k ∙ ap (λ t. t ∪ only i) (c .loop-i .inv)
+          ∙ below-takes s i (and-from (ltb i n) _ (lt-ltb i n in-sheet) (le-leb a (card n (m .agrees i)) enough)))
+      | else-count-ends w ↦
+          (let few : card n (m .agrees i) < a = omega (arith, number, w .if-count-ends .left) in
+          ap members (w .left-is) ∙ c .loop-i .inv ∙ below-skips s i (and-right (ltb i n) _ (lt-leb a (card n (m .agrees i)) few)))
     ]
 
 pub returns : need.returns

@@ -8,10 +8,11 @@ loop-limits-holds g c = (wears-self (c .args .limits .ends) (c .args .limits .sh
 pub loop-limits-again : need.loop-limits-again
 loop-limits-again g c =
     let mean = g .S·Sheet .meaning in
-    let next = c .look-at-next .ensures in
-    (wears-on (c .args .limits .ends) (c .args .limits .shared) (mean (c .args .sheet .now)) (mean (c .loop-limits .sheet)) (mean (c .look-at-next .last .sheet))
-      (c .loop-limits .inv .0) (next .wears),
-    next .lasts ∙ c .loop-limits .inv .1)
+    let next = c .look-at-next .ensures in (
+      wears-on (c .args .limits .ends) (c .args .limits .shared) (mean (c .args .sheet .now)) (mean (c .loop-limits .sheet)) (mean (c .look-at-next .last .sheet))
+          (c .loop-limits .inv .0) (next .wears),
+      next .lasts ∙ c .loop-limits .inv .1,
+    )
 
 pub returns : need.returns
 returns g c =
@@ -19,6 +20,6 @@ returns g c =
     let next = c .look-at-next .ensures in
     record {
       wears = wears-on (c .args .limits .ends) (c .args .limits .shared) (mean (c .args .sheet .now)) (mean (c .loop-limits .sheet)) (mean (c .look-at-next .last .sheet))
-        (c .loop-limits .inv .0) (next .wears);
+          (c .loop-limits .inv .0) (next .wears);
       lasts = next .lasts ∙ c .loop-limits .inv .1;
     }

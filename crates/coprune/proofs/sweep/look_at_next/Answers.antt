@@ -21,8 +21,8 @@ falls : {T U : Type 0} (m m′ : Meaning) (p p′ : Queue T) (q q′ : Queue U) 
 falls m m′ p p′ q q′ r e f l s w =
     let fits : length (waiting p′) + length (waiting q′) ≤ length (held p) + length (held q) = omega (arith, waiting-fits p′, waiting-fits q′) in
     work-falls (at-ends m) (at-ends m′) (length (held p) + length (held q)) (length (held p′) + length (held q′))
-      (length (waiting p) + length (waiting q)) (length (waiting p′) + length (waiting q′)) (ap₂ _+_ e f) l fits
-      (elim (cases-bool r) [ inl t ↦ inl (s t) | inr t ↦ inr (w t) ])
+    (length (waiting p) + length (waiting q)) (length (waiting p′) + length (waiting q′)) (ap₂ _+_ e f) l fits
+    (elim (cases-bool r) [ inl t ↦ inl (s t) | inr t ↦ inr (w t) ])
 
 pub returns-in-Some : need.returns-in-Some
 returns-in-Some g c =
@@ -38,9 +38,9 @@ returns-in-Some g c =
       wears = wears;
       lasts = said .lasts;
       falls = λ _. falls m m′ p (c .look-among .last .marks) q (c .look-among .last .pairs) (c .look-among .result)
-        (said .places .0 ∙ ap length (took .1)) (said .places .1)
-        (wears-fewer (c .args .limits .ends) (c .args .limits .shared) m m′ wears) (said .looks .fewer)
-        (λ e.
+          (said .places .0 ∙ ap length (took .1)) (said .places .1)
+          (wears-fewer (c .args .limits .ends) (c .args .limits .shared) m m′ wears) (said .looks .fewer)
+          (λ e.
           let idle = said .idle e in
           let x = ap (λ (t : Queue ℕ). length (waiting t)) (idle .1) in
           let y = ap (λ (t : Queue _). length (waiting t)) (idle .2) in
@@ -62,9 +62,9 @@ returns-in-Some-pop g c =
       wears = wears;
       lasts = said .lasts;
       falls = λ _. falls m m′ p (c .look-at-pair .last .marks) q (c .look-at-pair .last .pairs) (c .look-at-pair .result)
-        (said .places .0 ∙ ap (λ (t : Queue ℕ). length (held t)) (none .1)) (said .places .1 ∙ ap length (took .1))
-        (wears-fewer (c .args .limits .ends) (c .args .limits .shared) m m′ wears) (said .looks .fewer)
-        (λ e.
+          (said .places .0 ∙ ap (λ (t : Queue ℕ). length (held t)) (none .1)) (said .places .1 ∙ ap length (took .1))
+          (wears-fewer (c .args .limits .ends) (c .args .limits .shared) m m′ wears) (said .looks .fewer)
+          (λ e.
           let idle = said .idle e in
           let x = ap (λ (t : Queue ℕ). length (waiting t)) (idle .1 ∙ none .1) in
           let y = ap (λ (t : Queue _). length (waiting t)) (idle .2) in

@@ -33,16 +33,18 @@ loop-i-again g c =
     let seen = c .with-seen .ensures .inside k ∙ ap (λ s. s ∪ only i) (inv .3) ∙ seen-more i in
     let is = c .minus-above .ensures ∙ ap₂ _∖_ (c .neighbours .ensures .set) seen in
     elim (c .if-look-among .came) [
-      then-look-among w ↦
-        (subst Q (sym (w .struck-is)) (swept-struck a b m i (c .loop-i .struck) m′ (inv .0) above m″ (subst P (w .if-look-among .taken) looks)),
+      | then-look-among w ↦ (
+        subst Q (sym (w .struck-is)) (swept-struck a b m i (c .loop-i .struck) m′ (inv .0) above m″ (subst P (w .if-look-among .taken) looks)),
         c .look-among .ensures .lasts ∙ inv .1,
         (λ e. absurd (true≢false (sym (w .struck-is) ∙ e))),
-        seen)
-    | else-look-among w ↦
-        (subst Q (sym (w .struck-is)) (swept-fine a b m i (c .loop-i .struck) m′ (inv .0) above m″ (subst P (w .if-look-among .left) looks) (λ e. ap mean (inv .2 e)) is),
+        seen,
+      )
+      | else-look-among w ↦ (
+        subst Q (sym (w .struck-is)) (swept-fine a b m i (c .loop-i .struck) m′ (inv .0) above m″ (subst P (w .if-look-among .left) looks) (λ e. ap mean (inv .2 e)) is),
         c .look-among .ensures .lasts ∙ inv .1,
         (λ e. c .look-among .ensures .idle (w .if-look-among .left) .0 ∙ inv .2 (sym (w .struck-is) ∙ e)),
-        seen)
+        seen,
+      )
     ]
 
 pub returns : need.returns

@@ -1,8 +1,8 @@
-use mathlib.Core.Path.{_≡_, ap, subst}
+use mathlib.Core.Path.{_≡_, subst}
 use Prim.Native.Nat.{ℕ, _≤_}
 use native.Mathlib.Omega.{arith}
 use lib.ListN.{getD}
-use Rattle.tables.specs.Copying.{Parts}
+use Rattle.tables.specs.Lookup.{Parts}
 use Rattle.tables.proofs.Places.{stands-zero, not-found}
 use Rattle.tables.proofs.pairs.PairTable.find.Needs as need
 use Rattle.tables.proofs.pairs.PairTable.find.Needs.{else-at-self·by·then-at-self·else-self-at, else-at-self·by·else-at-self}

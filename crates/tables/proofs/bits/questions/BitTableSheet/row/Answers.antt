@@ -1,4 +1,4 @@
-use mathlib.Core.Path.{_≡_, sym, _∙_, fun-ext}
+use mathlib.Core.Path.{sym, _∙_, fun-ext}
 use native.Mathlib.Omega.{arith}
 use Rattle.tables.specs.Meanings.{bit-meaning}
 use Rattle.marks.proofs.First.{zeros-none}

@@ -1,7 +1,7 @@
 use mathlib.Core.Path.{_≡_, sym, ap, ap₂, _∙_}
-use mathlib.Core.Bool.{true, false}
-use mathlib.Core.List.{_++_, _∷_, [], map}
-use Prim.Native.Nat.{_+_, _%_, _^_}
+use mathlib.Core.Bool.{true}
+use mathlib.Core.List.{_++_, _∷_, []}
+use Prim.Native.Nat.{_+_}
 use native.Mathlib.Omega.{arith}
 use Rattle.std.proofs.shelf.Tests.{false≢true}
 use Rattle.plex.specs.Sets.{below, _∖_}
@@ -20,8 +20,7 @@ returns-then-not-push c =
     let i = c .args .i in
     let j = c .loop-j .j in
     let s = members (c .args .row) in
-    let there : (s ∖ below (i + 1)) j ≡ true = row-mark s i j (c .loop-j .kept .j) ∙ sym (c .has .ensures .inside) ∙ c .if-has .taken in
-    (
+    let there : (s ∖ below (i + 1)) j ≡ true = row-mark s i j (c .loop-j .kept .j) ∙ sym (c .has .ensures .inside) ∙ c .if-has .taken in (
       λ e. absurd (false≢true e),
       λ _.
           row-too-long (listed (c .args .self .now)) (listed (c .loop-j .self)) i j (c .args .marks) (s ∖ below (i + 1)) (c .loop-j .inv)

@@ -2,9 +2,9 @@ use borrow.Author.Needs.{needs}
 use mathlib.Core.Path.{_≡_, sym, ap, ap₂, _∙_}
 use Prim.Native.Nat.{_≤_}
 use native.Mathlib.Omega.{arith}
-use lib.ListN.{length, getD, take}
+use lib.ListN.{length, take}
 use Rattle.std.proofs.shelf.Lists.{take-all}
-use Rattle.plex.specs.Sets.{none, _∪_}
+use Rattle.plex.specs.Sets.{_∪_}
 use Rattle.plex.specs.Words.{holds}
 use Rattle.plex.specs.Meaning.{agree-by}
 use Rattle.fileword.specs.Layout.{pair-word}

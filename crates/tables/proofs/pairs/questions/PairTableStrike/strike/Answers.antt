@@ -16,8 +16,7 @@ ghost-self c =
     let at = c .in-Some .at in
     let w = c .word-of-pair-word .result in
     let f = c .in-Some .ensures tt in
-    let two : kind w ≡ 2 = omega (arith, c .word-of-pair-word .ensures) in
-    (
+    let two : kind w ≡ 2 = omega (arith, c .word-of-pair-word .ensures) in (
       t .few,
       (
         t .room,
@@ -48,9 +47,9 @@ returns-in-Some c =
       struck = record {
         marks = refl;
         agrees =
-          pair-struck (t .marks) i j (names (t .words)) (names (set (t .words) at (struck-word w))) (t .few) hi hj d (λ p q h k.
-          gone (t .words) (t .len) (t .marks) at w (t .few) (f .0) (f .1) (f .2) two (t .each) (t .rising) p q h k
-          ∙ ap (λ v. names (t .words) p q && not (eqb (pair-word p q) v)) e);
+            pair-struck (t .marks) i j (names (t .words)) (names (set (t .words) at (struck-word w))) (t .few) hi hj d (λ p q h k.
+            gone (t .words) (t .len) (t .marks) at w (t .few) (f .0) (f .1) (f .2) two (t .each) (t .rising) p q h k
+            ∙ ap (λ v. names (t .words) p q && not (eqb (pair-word p q) v)) e);
       };
       lasts = lasts (t .words) (t .len) (t .marks) at w (t .few) (f .0) (f .1) (f .2) two (t .each) (t .rising);
     }
