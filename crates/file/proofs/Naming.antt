@@ -19,37 +19,13 @@ use Rattle.plex.specs.Meaning.{agree-by}
 use Rattle.fileword.specs.Layout.{pair-word}
 use Rattle.fileword.specs.Files.{Pair, Names-marks, Pair-file, named-in}
 use Rattle.fileword.proofs.ReadBack.{pairs-back}
-use Rattle.file.specs.Sheets.{names, paired}
+use Rattle.pairing.specs.Naming.{names}
 
 -- what `contains` answers
 pub among-contains : (xs : List ℕ) (x : ℕ) (r : Bool) → Some-of (λ y t. Decides t (y ≡ x)) xs r → r ≡ among xs x
 among-contains xs x r h =
     same-from-decides r (among xs x) (has-from-contains xs x r h)
     (decides-by-or (λ y. eqb x y) (λ y. y ≡ x) (λ ys. among ys x) (λ y. decides-like (eqb x y) sym sym (decides-eqb x y)) refl (λ _ _. refl) xs)
-
-among-append : (xs ys : List ℕ) (i : ℕ) → among (xs ++ ys) i ≡ (among xs i || among ys i)
-among-append [] ys i = refl
-among-append (x ∷ xs) ys i = let e = among-append xs ys i in grind arith
-
--- what the first words name, with one word more
-agree-or : (n : ℕ) (r s t : Agreement) (i j : ℕ) → t i j ≡ (r i j || s i j) → t j i ≡ (r j i || s j i) →
-    agree-by n t i j ≡ (agree-by n r i j || agree-by n s i j)
-agree-or n r s t i j e f = grind (arith, tells)
-
-pub named-more : (ws : List ℕ) (p n i : ℕ) → p < length ws →
-    agree-by n (names (take (p + 1) ws)) i ≡ agree-by n (names (take p ws)) i ∪ paired n (getD ws p 0) i
-named-more ws p n i h = fun-ext (λ j. agree-or n (names (take p ws)) (λ a b. eqb (pair-word a b) w) (names (take (p + 1) ws)) i j (more i j) (more j i))
-  where
-    w : ℕ
-    w = getD ws p 0
-
-    more : (a b : ℕ) → names (take (p + 1) ws) a b ≡ (names (take p ws) a b || eqb (pair-word a b) w)
-    more a b =
-        ap (λ xs. among xs (pair-word a b)) (take-more ws p 0 h) ∙ among-append (take p ws) (w ∷ []) (pair-word a b)
-        ∙ ap (λ x. names (take p ws) a b || x) (or-false (eqb (pair-word a b) w))
-
-pub named-none : (n i : ℕ) → agree-by n (names []) i ≡ none
-named-none n i = fun-ext (λ j. grind (arith, tells))
 
 -- a list of pairs of marks below n names no mark with itself, and none from n on
 named-marks : (n : ℕ) (ps : List Pair) (i j : ℕ) → All (Names-marks n) ps → named-in ps i j ≡ true → (i < n) × (j < n) × (i ≡ j → ⊥)
@@ -75,6 +51,3 @@ pairs-agree n k ps ws hn hk f i j =
     fits : (n i j : ℕ) (x y z : Bool) → (z ≡ true → (i < n) × (j < n) × (i ≡ j → ⊥)) → (i < n → j < n → i < j → x ≡ z) → (i < n → j < n → j < i → y ≡ z) →
         ((ltb i n && ltb j n) && ((ltb i j && x) || (ltb j i && y))) ≡ z
     fits n i j x y z h a b = grind (arith, tells)
-
-pub or-none : (s t : Set) → t ≡ none → s ∪ t ≡ s
-or-none s t e = ap (λ u. s ∪ u) e ∙ fun-ext (λ j. or-false (s j))

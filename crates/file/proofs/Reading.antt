@@ -20,7 +20,8 @@ use Rattle.fileword.specs.declared.files.Wanted.the-variants.{OnlyPairs, OnlyMe
 use Rattle.fileword.proofs.Verdict.{spotless-from-good}
 use Rattle.fileword.proofs.ReadBack.{tolerance-back, sightings-back}
 use Rattle.sheet.proofs.Entering.{agree-same}
-use Rattle.file.specs.Sheets.{sheet-marks, names, alike, Reads-pairs, Reads-measured}
+use Rattle.pairing.specs.Naming.{names}
+use Rattle.file.specs.Sheets.{sheet-marks, alike, Reads-pairs, Reads-measured}
 use Rattle.file.specs.declared.measured.MeasuredSheet.{MeasuredSheet}
 use Rattle.file.specs.declared.pairs.PairSheet.{PairSheet}
 use Rattle.file.proofs.Naming.{pairs-agree}

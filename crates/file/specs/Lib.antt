@@ -1,4 +1,3 @@
 pub mod Finding
 pub mod Sheets
-pub mod Pairing
 pub mod Points

@@ -6,20 +6,20 @@ use Prim.Native.Nat.{ℕ, _≤_, min}
 use native.Mathlib.Nat.{min-le-right}
 use denote.Ref.{now}
 use lib.ListN.{getD}
-use lib.Dec.{eqb}
 use Rattle.std.specs.declared.result.Result.{Result}
 use Rattle.std.specs.declared.result.Result.the-variants.{Ok, Err}
 use Rattle.std.specs.Results.{isOk}
-use Rattle.plex.specs.Sets.{Set, Agreement, among}
+use Rattle.plex.specs.Sets.{Agreement}
 use Rattle.plex.specs.Meaning.{Meaning, agree-by, meaning-by}
 use Rattle.plex.specs.Distance.{Sighting, sighted-alike}
-use Rattle.fileword.specs.Layout.{load, pair-word}
+use Rattle.fileword.specs.Layout.{load}
 use Rattle.fileword.specs.Files.{Pair, Pair-file, Measured-file, Good, named-in}
 use Rattle.fileword.specs.Faults.{at, marks-said, Refused}
 use Rattle.fileword.specs.Laws.{sighting-at}
 use Rattle.fileword.specs.declared.files.Form.the-variants.{Pairs, Measured}
 use Rattle.fileword.specs.declared.files.FileRefusal.{FileRefusal}
 use Rattle.fileword.specs.declared.files.Wanted.the-variants.{OnlyPairs, OnlyMeasured}
+use Rattle.pairing.specs.Naming.{names}
 use Rattle.file.specs.declared.pairs.PairSheet.{PairSheet}
 use Rattle.file.specs.declared.measured.MeasuredSheet.{MeasuredSheet}
 
@@ -27,16 +27,9 @@ use Rattle.file.specs.declared.measured.MeasuredSheet.{MeasuredSheet}
 abbrev pub sheet-marks : List ℕ → ℕ
 sheet-marks ws = min (marks-said ws) 128
 
--- a pair sheet: some word is that of the pair
-abbrev pub names : List ℕ → Agreement
-names ws a b = among ws (pair-word a b)
-
+-- a pair sheet: two marks agree if the words name them
 abbrev pub pair-meaning : List ℕ → Meaning
 pair-meaning ws = meaning-by (sheet-marks ws) (min-le-right (marks-said ws) 128) (names ws)
-
--- the marks that one word pairs with mark i, among n
-abbrev pub paired : ℕ → ℕ → ℕ → Set
-paired n w i = agree-by n (λ a b. eqb (pair-word a b) w) i
 
 -- a measured sheet: the marks are sighted alike
 unfoldable pub alike : List ℕ → Agreement

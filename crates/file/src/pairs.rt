@@ -1,19 +1,16 @@
 // A sheet that reads a pair file where its words stand.
 ghost use mathlib.Core.Path.{_≡_};
-ghost use Prim.Native.Nat.{_≤_, _<_};
+ghost use Prim.Native.Nat.{_<_};
 ghost use denote.Ref.{now};
-ghost use Rattle.file.specs.Sheets.{names, pair-meaning, paired, Pairs-read, Pairs-accepted};
-ghost use Rattle.file.specs.Pairing.{Is-just};
+ghost use Rattle.pairing.specs.Naming.{names};
+ghost use Rattle.file.specs.Sheets.{pair-meaning, Pairs-read, Pairs-accepted};
 use crate::check::judge;
 use crate::faults::word_at;
 use fileword::files::FileRefusal;
 use fileword::files::Wanted;
-use fileword::layout::kind_of;
-use fileword::layout::lower_of;
 use fileword::layout::marks_of;
-use fileword::layout::upper_of;
 use fileword::layout::word_of_pair;
-use marks::set::MarkSet;
+use pairing::row_among;
 use sheet::kinds::Sheet;
 
 #[derive(Clone, Copy)]
@@ -42,22 +39,6 @@ impl<'a> PairSheet<'a> {
     }
 }
 
-// The mark that a word pairs with mark i, if it is the word of a pair of two marks.
-fn partner(word: u32, marks: u32, i: u32) -> Option<u32>
-    requires { ⌜ marks ≤ 128 ⌝ }
-    ensures { λ r. ⌜ Is-just (paired marks word i) r ⌝ }
-{
-    let a = upper_of(word);
-    let b = lower_of(word);
-    if kind_of(word) != 2 || a >= b || b >= marks {
-        return None;
-    }
-    if a == i {
-        return Some(b);
-    }
-    if b == i { Some(a) } else { None }
-}
-
 pub impl<'a> Sheet for PairSheet<'a> as PairFileSheet {
     ghost meaning = { λ s. pair-meaning (now (s .words)) };
 
@@ -72,13 +53,6 @@ pub impl<'a> Sheet for PairSheet<'a> as PairFileSheet {
 
     // In one pass over the words.
     fn row(&self, i: u32) -> [u32; 4] {
-        let marks = self.marks();
-        let mut row = MarkSet::empty();
-        for word in self.words {
-            if let Some(j) = partner(*word, marks, i) {
-                row = row.with(j);
-            }
-        }
-        row.words()
+        row_among(self.words, self.marks(), i)
     }
 }

@@ -11,10 +11,8 @@ use lib.Seq.{getD-take}
 use Rattle.std.proofs.shelf.Lists.{take-more, getD-set-same, getD-set-other}
 use Rattle.std.proofs.shelf.Tests.{cases-eq, cases-lt, cases-bool, or-left, or-right, or-cases, eq-eqb, ne-eqb, eqb-true, false≢true}
 use Rattle.std.proofs.shelf.Ways.{tells}
-use Rattle.plex.specs.Sets.{Set, Agreement, none, among, _∪_}
+use Rattle.plex.specs.Sets.{Agreement, among}
 use Rattle.plex.specs.Meaning.{agree-by}
-use Rattle.fileword.specs.Layout.{pair-word}
-use Rattle.tables.specs.Pairs.{names, paired}
 
 pub among-at : (xs : List ℕ) (p x : ℕ) → p < length xs → getD xs p 0 ≡ x → among xs x ≡ true
 among-at [] p x l e = absurd (omega arith)
@@ -28,10 +26,6 @@ among-place (y ∷ xs) x e =
       | inl h ↦ (zero, omega arith, sym (eqb-true x y h))
       | inr h ↦ let r = among-place xs x h in (suc (r .0), omega (arith, r .1), r .2)
     ]
-
-pub among-append : (xs ys : List ℕ) (i : ℕ) → among (xs ++ ys) i ≡ (among xs i || among ys i)
-among-append [] ys i = refl
-among-append (x ∷ xs) ys i = let e = among-append xs ys i in grind arith
 
 -- two tests that are true together
 pub same-test : (a b : Bool) → (a ≡ true → b ≡ true) → (b ≡ true → a ≡ true) → a ≡ b
@@ -91,29 +85,6 @@ among-changed ws p v x l d once =
           | inl f ↦ absurd (false≢true (sym b ∙ eq-eqb x (getD ws p 0) (sym (r .2) ∙ ap (λ s. getD ws s 0) f)))
           | inr f ↦ among-at (set ws p v) q x (omega (arith, r .1, length-set ws p v)) (getD-set-other ws p q v 0 f ∙ r .2)
         ]
-
--- what the first words name, with one word more
-agree-or : (n : ℕ) (r s t : Agreement) (i j : ℕ) → t i j ≡ (r i j || s i j) → t j i ≡ (r j i || s j i) →
-    agree-by n t i j ≡ (agree-by n r i j || agree-by n s i j)
-agree-or n r s t i j e f = grind (arith, tells)
-
-pub named-more : (ws : List ℕ) (p n i : ℕ) → p < length ws →
-    agree-by n (names (take (p + 1) ws)) i ≡ agree-by n (names (take p ws)) i ∪ paired n (getD ws p 0) i
-named-more ws p n i h = fun-ext (λ j. agree-or n (names (take p ws)) (λ a b. eqb (pair-word a b) w) (names (take (p + 1) ws)) i j (more i j) (more j i))
-  where
-    w : ℕ
-    w = getD ws p 0
-
-    more : (a b : ℕ) → names (take (p + 1) ws) a b ≡ (names (take p ws) a b || eqb (pair-word a b) w)
-    more a b =
-        ap (λ xs. among xs (pair-word a b)) (take-more ws p 0 h) ∙ among-append (take p ws) (w ∷ []) (pair-word a b)
-        ∙ ap (λ x. names (take p ws) a b || x) (or-false (eqb (pair-word a b) w))
-
-pub named-none : (n i : ℕ) → agree-by n (names []) i ≡ none
-named-none n i = fun-ext (λ j. grind (arith, tells))
-
-pub or-none : (s t : Set) → t ≡ none → s ∪ t ≡ s
-or-none s t e = ap (λ u. s ∪ u) e ∙ fun-ext (λ j. or-false (s j))
 
 -- two relations that are the same between marks give the same agreement
 pub agree-same : (n : ℕ) (r s : Agreement) → ((p q : ℕ) → r p q ≡ s p q) → (i : ℕ) → agree-by n r i ≡ agree-by n s i

@@ -14,7 +14,8 @@ use Rattle.plex.specs.Sets.{Agreement, struck}
 use Rattle.plex.specs.Meaning.{agree-by}
 use Rattle.fileword.specs.Layout.{kind, load, upper, lower, pair-word}
 use Rattle.fileword.proofs.ReadBack.{pair-word-equal}
-use Rattle.tables.specs.Pairs.{pair-or-struck, stands, out-of-order, names}
+use Rattle.tables.specs.Pairs.{pair-or-struck, stands, out-of-order}
+use Rattle.pairing.specs.Naming.{names}
 use Rattle.tables.proofs.Among.{among-changed}
 use Rattle.tables.proofs.Places.{stands-pair, stands-zero, stands-from, in-order, ordered-from, one-place}
 

@@ -13,7 +13,8 @@ use Rattle.std.proofs.shelf.Ways.{tells}
 use Rattle.plex.specs.Meaning.{agree-by}
 use Rattle.fileword.specs.Layout.{kind, load, upper, lower, pair-word}
 use Rattle.fileword.proofs.Words.{fields-back}
-use Rattle.tables.specs.Pairs.{pair-or-struck, stands, out-of-order, names}
+use Rattle.tables.specs.Pairs.{pair-or-struck, stands, out-of-order}
+use Rattle.pairing.specs.Naming.{names}
 use Rattle.tables.proofs.Among.{among-at, among-place}
 use Rattle.tables.proofs.Places.{stands-pair, stands-zero, one-place}
 

@@ -20,8 +20,10 @@ use Rattle.plex.proofs.Rising.{length-rising, rising-within, rising-all, rising
 use Rattle.pruning.specs.Pruned.{sum-to, agreements}
 use Rattle.fileword.specs.Layout.{kind, load, upper, lower, pair-word}
 use Rattle.fileword.proofs.Words.{kind-fields, upper-fields, lower-fields}
-use Rattle.tables.specs.Pairs.{names, row-pairs, pairs-to}
-use Rattle.tables.proofs.Among.{among-at, among-place, among-append, same-test}
+use Rattle.tables.specs.Pairs.{row-pairs, pairs-to}
+use Rattle.pairing.specs.Naming.{names}
+use Rattle.tables.proofs.Among.{among-at, among-place, same-test}
+use Rattle.pairing.proofs.Naming.{among-append}
 
 -- how many words the pairs with the first marks have
 abbrev pub higher : ℕ → Agreement → ℕ → ℕ

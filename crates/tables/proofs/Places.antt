@@ -19,7 +19,8 @@ use Rattle.plex.specs.Sets.{Agreement, among}
 use Rattle.plex.specs.Meaning.{agree-by}
 use Rattle.pruning.specs.Pruned.{agreements}
 use Rattle.fileword.specs.Layout.{kind, load, upper, lower, pair-word}
-use Rattle.tables.specs.Pairs.{pair-or-struck, stands, out-of-order, left-over, names, pairs-to}
+use Rattle.tables.specs.Pairs.{pair-or-struck, stands, out-of-order, left-over, pairs-to}
+use Rattle.pairing.specs.Naming.{names}
 use Rattle.tables.specs.Lookup.{Parts, Found}
 use Rattle.tables.proofs.Among.{among-at, among-place, among-front, test-fails, agree-same}
 use Rattle.tables.proofs.PairLists.{Pair-of, length-pairs, pairs-good, pairs-rise, pairs-name}

@@ -1,4 +1,4 @@
--- Looking up the word of a pair, and the mark that a word pairs with another. Assumes nothing.
+-- Looking up the word of a pair. Assumes nothing.
 use mathlib.Core.Path.{_≡_}
 use mathlib.Core.Bool.{false}
 use mathlib.Core.List.{List}
@@ -6,7 +6,7 @@ use Prim.Native.Nat.{ℕ, _≤_, _<_}
 use lib.ListN.{length, getD}
 use Rattle.std.specs.declared.option.Option.{Option}
 use Rattle.std.specs.declared.option.Option.the-variants.{Some, None}
-use Rattle.plex.specs.Sets.{Set, among, none, only}
+use Rattle.plex.specs.Sets.{among}
 use Rattle.fileword.specs.Layout.{load}
 
 -- place r parts the first len words: their loads are below l before it, and not from it on
@@ -19,8 +19,3 @@ pub record Parts (ws : List ℕ) (len l r : ℕ) : Type 0 where
 abbrev pub Found : List ℕ → ℕ → ℕ → Option ℕ → Type 0
 Found ws len w None = among ws w ≡ false
 Found ws len w (Some p) = (p < len) × (p < length ws) × (getD ws p 0 ≡ w)
-
--- the set is empty, or has just the one mark
-abbrev pub Is-just : Set → Option ℕ → Type 0
-Is-just s None = s ≡ none
-Is-just s (Some u) = (u < 128) × (s ≡ only u)

@@ -7,7 +7,7 @@ use Rattle.std.proofs.shelf.Tests.{le-leb}
 use Rattle.plex.specs.Meaning.{Meaning, meaning-by}
 use Rattle.fileword.specs.Layout.{load}
 use Rattle.tables.specs.Bits.{bit-agrees}
-use Rattle.tables.specs.Pairs.{names}
+use Rattle.pairing.specs.Naming.{names}
 use Rattle.tables.specs.declared.bits.BitTable.{BitTable}
 use Rattle.tables.specs.declared.pairs.PairTable.{PairTable}
 

@@ -4,8 +4,7 @@ use mathlib.Core.List.{List, [], _++_, map}
 use Prim.Native.Nat.{ℕ, zero, suc, _+_}
 use lib.Dec.{eqb, leb, ltb}
 use lib.ListN.{getD}
-use Rattle.plex.specs.Sets.{Set, Agreement, among, below, rising, _∖_}
-use Rattle.plex.specs.Meaning.{agree-by}
+use Rattle.plex.specs.Sets.{Set, Agreement, below, rising, _∖_}
 use Rattle.fileword.specs.Layout.{kind, load, upper, lower, pair-word}
 
 -- the word of a pair among n marks, of kind 2, or of one that was struck, of kind 14
@@ -23,14 +22,6 @@ out-of-order ws len p q = (ltb p q && ltb q len) && leb (load (getD ws q 0)) (lo
 -- something stands at a place from len on
 unfoldable pub left-over : List ℕ → ℕ → ℕ → Bool
 left-over ws len p = leb len p && not (eqb (getD ws p 0) 0)
-
--- some word is that of the pair
-abbrev pub names : List ℕ → Agreement
-names ws a b = among ws (pair-word a b)
-
--- the marks that one word pairs with mark i, among n
-abbrev pub paired : ℕ → ℕ → ℕ → Set
-paired n w i = agree-by n (λ a b. eqb (pair-word a b) w) i
 
 -- the words of mark i with the higher marks of s below n
 abbrev pub row-pairs : ℕ → ℕ → Set → List ℕ

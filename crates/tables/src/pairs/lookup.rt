@@ -1,7 +1,7 @@
 // Looking a pair up by halves.
 ghost use mathlib.Core.Path.{_≡_};
 ghost use Prim.Native.Nat.{_<_};
-ghost use Rattle.tables.specs.Pairs.{names};
+ghost use Rattle.pairing.specs.Naming.{names};
 ghost use Rattle.tables.specs.Lookup.{Parts, Found};
 use super::PairTable;
 use fileword::layout::load_of;

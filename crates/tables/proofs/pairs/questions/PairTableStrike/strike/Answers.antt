@@ -5,7 +5,7 @@ use native.Mathlib.Omega.{arith}
 use lib.Dec.{eqb}
 use lib.ListN.{set}
 use Rattle.fileword.specs.Layout.{kind, pair-word}
-use Rattle.tables.specs.Pairs.{names}
+use Rattle.pairing.specs.Naming.{names}
 use Rattle.tables.proofs.Among.{among-at}
 use Rattle.tables.proofs.Changing.{struck-word, each-kept, rising-kept, lasts, gone, pair-struck, pair-there}
 use Rattle.tables.proofs.pairs.questions.PairTableStrike.strike.Needs as need

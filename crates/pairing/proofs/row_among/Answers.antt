@@ -1,24 +1,24 @@
 use mathlib.Core.Path.{_≡_, sym, ap, ap₂, _∙_}
 use Prim.Native.Nat.{_≤_}
 use native.Mathlib.Omega.{arith}
-use lib.ListN.{length, getD, take}
+use lib.ListN.{length, take}
 use Rattle.std.proofs.shelf.Lists.{take-all}
-use Rattle.plex.specs.Sets.{none, _∪_}
+use Rattle.plex.specs.Sets.{_∪_}
 use Rattle.plex.specs.Words.{holds}
 use Rattle.plex.specs.Meaning.{agree-by}
 use Rattle.marks.specs.Members.{members}
-use Rattle.file.specs.Sheets.{names, sheet-marks}
-use Rattle.file.proofs.Naming.{named-none, named-more, or-none}
-use Rattle.file.proofs.pairs.PairFileSheet.row.Needs as need
-use Rattle.file.proofs.pairs.PairFileSheet.row.Needs.{in-Some, in-rest}
+use Rattle.pairing.specs.Naming.{names}
+use Rattle.pairing.proofs.Naming.{named-none, named-more, or-none}
+use Rattle.pairing.proofs.row_among.Needs as need
+use Rattle.pairing.proofs.row_among.Needs.{in-Some, in-rest}
 
 pub loop-word-holds : need.loop-word-holds
-loop-word-holds c = c .empty-row .ensures ∙ sym (named-none (c .marks-marks .result) (c .args .i))
+loop-word-holds c = c .empty-row .ensures ∙ sym (named-none (c .min-few .result) (c .args .i))
 
 pub loop-word-again : need.loop-word-again
 loop-word-again c =
-    let ws = c .args .self .now .words .now in
-    let n = c .marks-marks .result in
+    let ws = c .args .words .now in
+    let n = c .min-few .result in
     let p = c .loop-word .word-index in
     let i = c .args .i in
     let more = named-more ws p n i (c .loop-word-test .taken) in
@@ -33,8 +33,8 @@ loop-word-again c =
 
 pub returns : need.returns
 returns c =
-    let ws = c .args .self .now .words .now in
+    let ws = c .args .words .now in
     let p = c .loop-word .word-index in
     let h : length ws ≤ p = omega arith in
     ap holds (c .words .ensures) ∙ c .loop-word .inv
-    ∙ ap₂ (λ n xs. agree-by n (names xs) (c .args .i)) (c .marks-marks .ensures) (take-all p ws h)
+    ∙ ap₂ (λ n xs. agree-by n (names xs) (c .args .i)) (c .min-few .ensures) (take-all p ws h)
