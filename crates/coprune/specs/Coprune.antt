@@ -1,14 +1,13 @@
--- What co-pruning answers, and what it leaves. Assumes nothing.
+-- What the steps of co-pruning do. Assumes nothing.
 use mathlib.Core.Path.{_≡_}
 use mathlib.Core.Bool.{Bool, true, false, _&&_}
-use mathlib.Core.List.{List}
-use Prim.Native.Nat.{ℕ, _+_, _*_, _≤_, _<_}
+use Prim.Native.Nat.{ℕ, _+_, _*_, _<_}
 use Rattle.plex.specs.Meaning.{Meaning}
 use Rattle.plex.specs.Sets.{Set}
 use lib.ListN.{length}
 use Rattle.queue.specs.declared.ring.Queue.{Queue}
 use Rattle.queue.specs.Waits.{held, waiting}
-use Rattle.pruning.specs.Pruned.{Largest, Kept, offends, ends-needed, shared-needed, left-marks, agreements, agreements-at-ends}
+use Rattle.pruning.specs.Pruned.{Kept, offends, agreements-at-ends}
 
 -- m′ is what is left of m after some agreements that may not stay were struck
 pub record Wears (a b : ℕ) (m m′ : Meaning) : Type 0 where

@@ -2,7 +2,11 @@
 ghost use mathlib.Core.Path.{_≡_};
 ghost use mathlib.Core.Bool.{false};
 ghost use lib.ListN.{length};
-ghost use Rattle.queue.specs.Waits.{held};
+ghost use Prim.Native.Nat.{ℕ, _+_};
+ghost use lib.Dec.{eqb};
+ghost use Rattle.std.specs.declared.result.Result.{Result};
+ghost use Rattle.queue.specs.declared.ring.QueueRefusal.{QueueRefusal};
+ghost use Rattle.queue.specs.Waits.{held, Put};
 ghost use Rattle.marks.specs.Members.{members};
 ghost use Rattle.coprune.specs.Coprune.{Looks, Looks-among};
 use crate::limits::Limits;
@@ -22,13 +26,15 @@ pub struct Pair {
 
 // Has x wait. Where the queue is full it does not: a later sweep over all agreements looks at it.
 fn wait<T: Copy>(queue: &mut Queue<T>, x: T)
-    ensures { λ _. ⌜ length (held (now (queue .exit))) ≡ length (held (now (queue .entry))) ⌝ }
+    ensures { λ _. ⌜ ((r : Result ℕ QueueRefusal) × Put (now (queue .entry)) x r (now (queue .exit))) ⌝ }
 {
     let _ = queue.push(x);
 }
 
 // Whether a number is one too low: it was enough before the last strike.
-fn just_short(number: u32, needed: u32) -> bool {
+fn just_short(number: u32, needed: u32) -> bool
+    ensures { λ r. ⌜ r ≡ eqb (number + 1) needed ⌝ }
+{
     number < needed && needed - number == 1
 }
 

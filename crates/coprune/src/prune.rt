@@ -5,7 +5,7 @@ ghost use lib.ListN.{length};
 ghost use Rattle.std.specs.Results.{isOk};
 ghost use Rattle.marks.specs.Members.{members};
 ghost use Rattle.pruning.specs.Pruned.{Largest};
-ghost use Rattle.coprune.specs.Answers.{Co-prunes, May-hold-anything};
+ghost use Rattle.coprune.specs.Answers.{pair-places, Co-prunes, May-hold-anything};
 use crate::limits::Limits;
 use crate::look::Pair;
 use crate::refusal::PruneRefusal;
@@ -39,7 +39,7 @@ pub fn co_prune<S: Strike>(
     if mark_space.len() < sheet.marks() as usize {
         return Err(PruneRefusal::TooFewMarkPlaces);
     }
-    if pair_space.len() < count_agreements(sheet) as usize {
+    if pair_space.len() < pair_places(sheet) as usize {
         return Err(PruneRefusal::TooFewPairPlaces);
     }
     if floor > 128 {
@@ -49,6 +49,13 @@ pub fn co_prune<S: Strike>(
     strike_all(sheet, limits, mark_space, pair_space);
     *left = marks_with(sheet, limits.ends);
     Ok(0)
+}
+
+// How many places the pairs that wait want: one for each agreement.
+pub fn pair_places<S: Sheet>(sheet: &S) -> u32
+    ensures { λ r. ⌜ r ≡ pair-places (S·Sheet .meaning (now (sheet .entry))) ⌝ }
+{
+    count_agreements(sheet)
 }
 
 // Strikes until no agreement is left that may not stay.

@@ -1,9 +1,9 @@
 // Going over all agreements, and over those that wait.
 ghost use mathlib.Core.Path.{_≡_};
-ghost use mathlib.Core.Bool.{true};
+ghost use mathlib.Core.Bool.{true, false};
+ghost use mathlib.Core.List.{[]};
 ghost use Prim.Native.Nat.{_<_};
-ghost use lib.ListN.{length};
-ghost use Rattle.queue.specs.Waits.{held};
+ghost use Rattle.queue.specs.Waits.{waiting};
 ghost use Rattle.coprune.specs.Coprune.{Wears, Sweeps, work};
 use crate::limits::Limits;
 use crate::look::Pair;
@@ -46,6 +46,7 @@ fn look_at_next<S: Strike>(
 ) -> bool
     ensures wears { λ _. ⌜ Wears (limits .ends) (limits .shared) (S·Sheet .meaning (now (sheet .entry))) (S·Sheet .meaning (now (sheet .exit))) ⌝ }
     ensures lasts { λ _. ⌜ S·Strike .lasting (now (sheet .exit)) ≡ S·Strike .lasting (now (sheet .entry)) ⌝ }
+    ensures over { λ r. ⌜ (r ≡ false → (waiting (now (marks .exit)) ≡ []) × (waiting (now (pairs .exit)) ≡ [])) ⌝ }
     ensures falls { λ r. ⌜ (r ≡ true → work (S·Sheet .meaning (now (sheet .exit))) (now (marks .exit)) (now (pairs .exit)) < work (S·Sheet .meaning (now (sheet .entry))) (now (marks .entry)) (now (pairs .entry))) ⌝ }
 {
     if let Some(i) = marks.pop() {
@@ -68,6 +69,7 @@ pub(crate) fn drain<S: Strike>(
     pairs: &mut Queue<Pair>,
 )
     ensures wears { λ _. ⌜ Wears (limits .ends) (limits .shared) (S·Sheet .meaning (now (sheet .entry))) (S·Sheet .meaning (now (sheet .exit))) ⌝ }
+    ensures over { λ _. ⌜ (waiting (now (marks .exit)) ≡ []) × (waiting (now (pairs .exit)) ≡ []) ⌝ }
     ensures lasts { λ _. ⌜ S·Strike .lasting (now (sheet .exit)) ≡ S·Strike .lasting (now (sheet .entry)) ⌝ }
 {
     while look_at_next(sheet, limits, marks, pairs) {}

@@ -1,13 +1,15 @@
 -- The laws of co-pruning. Assumes nothing.
 use mathlib.Core.Path.{_≡_}
-use Prim.Native.Nat.{ℕ, _+_, _*_, _<_, _≤_}
+use Prim.Native.Nat.{ℕ, _*_, _<_}
 use Rattle.plex.specs.Sets.{Set, Agreement, card, struck, Kplex, _⊆_}
-use Rattle.pruning.specs.Pruned.{_⊑_, Two-way, Among, Good, Largest, ends-needed, shared-needed, left-marks, Offends, agreements-at-ends}
+use Rattle.pruning.specs.Pruned.{_⊑_, Two-way, Among, Good, Largest, ends-needed, shared-needed, left-marks, Offends}
 use Rattle.pruning.specs.Rounds.{rounds}
 
 pub record Co-pruning : Type 0 where
-  -- the largest good set exists, for agreement among n marks that goes both ways: enough rounds compute it
-  pub exists : (n a b : ℕ) (r : Agreement) → Among n r → Two-way r → Largest n a b r (rounds (n * n) n a b r)
+  -- the largest good set exists, for agreement among n marks that goes both ways
+  pub exists : (n a b : ℕ) (r : Agreement) → Among n r → Two-way r → (g : Agreement) × Largest n a b r g
+  -- enough rounds, each of which strikes all that offends, compute it
+  pub by-rounds : (n a b : ℕ) (r : Agreement) → Among n r → Two-way r → Largest n a b r (rounds (n * n) n a b r)
   -- and there is one
   pub unique : (n a b : ℕ) (r g h : Agreement) → Largest n a b r g → Largest n a b r h → g ≡ h
   -- striking an agreement that offends strikes none of a good set

@@ -42,7 +42,7 @@ shared-needed k f = f + 1 - 2 * k
 abbrev pub left-marks : ℕ → ℕ → Agreement → Set
 left-marks n a g i = ltb i n && leb a (card n (g i))
 
--- an agreement that no good set has
+-- an agreement of g that no good part of g has
 abbrev pub Offends : ℕ → ℕ → ℕ → Agreement → ℕ → ℕ → Type 0
 Offends n a b g i j = (card n (g i) < a) ⊎ ((card n (g j) < a) ⊎ (card n (g i ∩ g j) < b))
 

@@ -47,15 +47,6 @@ impl Listing {
         count
     }
 
-    // How many agreements there are.
-    pub fn count(&self) -> usize {
-        let mut ends = 0usize;
-        for i in 0..12 {
-            ends = ends.saturating_add(self.degree(i));
-        }
-        ends / 2
-    }
-
     // What is left after one round, in which all agreements that fail are struck at once.
     fn round(&self, ends: usize, shared: usize) -> Listing {
         let mut next = *self;

@@ -13,6 +13,8 @@ fn main(rt: LibcRuntime) -> io::Result<()> {
     }
     sheets::worked(&rt)?;
     sheets::refusals(&rt)?;
+    sheets::copies(&rt)?;
+    sheets::strikes(&rt)?;
     for marks in 0..13 {
         sheets::generated(&rt, marks)?;
     }

@@ -15,32 +15,64 @@ use tables::pairs::PairTable;
 use tables::pairs::questions::PairTableSheet;
 use tables::pairs::questions::PairTableStrike;
 
-// How many agreements and marks a co-pruned table has left; `differs` where it is not as the listing says.
+// How many agreements and marks are left, and of how many co-prunings; `differs` where one is not as the listing says.
 #[derive(Clone, Copy)]
 struct Left {
+    cases: u32,
     agreements: u32,
     marks: u32,
     differs: bool,
 }
 
-// Co-prunes a table and compares it with what must be left.
-fn pruned<S: Strike>(table: &mut S, k: u32, floor: u32, must: &Listing) -> Left {
-    let mut left = MarkSet::empty();
-    let mut marks = [0; 128];
-    let mut pairs = [Pair { a: 0, b: 0 }; 66];
-    let answer = co_prune(table, k, floor, &mut left, &mut marks, &mut pairs);
-    let mut found = Left {
-        agreements: 0,
-        marks: left.count(),
-        differs: answer.is_err(),
-    };
+impl Left {
+    fn nothing() -> Left {
+        Left {
+            cases: 0,
+            agreements: 0,
+            marks: 0,
+            differs: false,
+        }
+    }
+
+    // Both together.
+    fn and(self, other: Left) -> Left {
+        Left {
+            cases: self.cases.saturating_add(other.cases),
+            agreements: self.agreements.saturating_add(other.agreements),
+            marks: self.marks.saturating_add(other.marks),
+            differs: self.differs || other.differs,
+        }
+    }
+
+    fn show(self, rt: &LibcRuntime) -> io::Result<()> {
+        if self.differs {
+            return println!(rt, " DIFFERS");
+        }
+        let cases = self.cases;
+        let agreements = self.agreements;
+        let marks = self.marks;
+        println!(
+            rt,
+            " {agreements} agreements and {marks} marks left in {cases} cases"
+        )
+    }
+}
+
+// What a co-pruned table has left, compared with what must be left, agreement by agreement and mark by mark.
+fn compared<S: Sheet>(table: &S, left: MarkSet, ends: usize, must: &Listing) -> Left {
+    let mut found = Left::nothing();
+    found.cases = 1;
+    found.marks = left.count();
     for i in 0..12u32 {
+        let stays = i < table.marks() && must.degree(i as usize) >= ends;
+        if left.has(i) != stays {
+            found.differs = true;
+        }
         for j in i..12u32 {
-            let there = table.agree(i, j);
-            if there {
+            if table.agree(i, j) {
                 found.agreements = found.agreements.saturating_add(1);
             }
-            if there != must.has(i as usize, j as usize) {
+            if table.agree(i, j) != must.has(i as usize, j as usize) {
                 found.differs = true;
             }
         }
@@ -48,51 +80,39 @@ fn pruned<S: Strike>(table: &mut S, k: u32, floor: u32, must: &Listing) -> Left 
     found
 }
 
-// Co-prunes a sheet in both kinds of table: how many agreements and marks are left, if both are as the listing says.
-fn left_of<S: Sheet>(sheet: &S, all: &Listing, k: u32, floor: u32) -> Option<Left> {
+// Co-prunes a table and compares it with the listing.
+fn pruned<S: Strike>(table: &mut S, all: &Listing, k: u32, floor: u32) -> Left {
     let ends = (floor as usize)
         .saturating_add(1)
         .saturating_sub(k as usize);
     let shared = (floor as usize)
         .saturating_add(1)
         .saturating_sub((k as usize).saturating_mul(2));
-    let must = all.pruned(ends, shared);
+    let mut left = MarkSet::empty();
+    let mut marks = [0; 128];
+    let mut pairs = [Pair { a: 0, b: 0 }; 66];
+    let answer = co_prune(table, k, floor, &mut left, &mut marks, &mut pairs);
+    let mut found = compared(table, left, ends, &all.pruned(ends, shared));
+    found.differs = found.differs || answer.is_err();
+    found
+}
+
+// Co-prunes a sheet in both kinds of table.
+fn left_of<S: Sheet>(sheet: &S, all: &Listing, k: u32, floor: u32) -> Left {
     let mut bits = BitTable::copy_of(sheet);
-    let in_bits = pruned(&mut bits, k, floor, &must);
-    if let Ok(mut pairs) = PairTable::copy_of(sheet) {
-        let in_pairs = pruned(&mut pairs, k, floor, &must);
-        if !in_bits.differs
-            && !in_pairs.differs
-            && in_pairs.agreements == in_bits.agreements
-            && in_pairs.marks == in_bits.marks
-        {
-            return Some(in_bits);
-        }
-    }
-    None
-}
-
-// Prints how many agreements and marks are left.
-fn show(rt: &LibcRuntime, left: Option<Left>) -> io::Result<()> {
-    match left {
-        Some(left) => {
-            let agreements = left.agreements;
-            let marks = left.marks;
-            print!(rt, " {agreements}/{marks}")
-        }
-        None => print!(rt, " DIFFERS"),
+    let in_bits = pruned(&mut bits, all, k, floor);
+    match PairTable::copy_of(sheet) {
+        Ok(mut pairs) => pruned(&mut pairs, all, k, floor).and(in_bits),
+        Err(_) => Left {
+            differs: true,
+            ..in_bits
+        },
     }
 }
 
-// Enters the agreements of a listing, and prints what co-pruning leaves for each floor from the first to the last.
-fn entered(
-    rt: &LibcRuntime,
-    marks: u32,
-    all: &Listing,
-    k: u32,
-    first: u32,
-    last: u32,
-) -> io::Result<()> {
+// Enters the agreements of a listing, and co-prunes for each floor from the first to the last.
+fn entered(marks: u32, all: &Listing, k: u32, first: u32, last: u32) -> Left {
+    let mut found = Left::nothing();
     let mut words = [0; 12];
     if let Ok(mut entry) = Entry::begin(&mut words, marks) {
         for i in 0..12u32 {
@@ -104,10 +124,10 @@ fn entered(
         }
         let sheet = entry.seal();
         for floor in first..last.saturating_add(1) {
-            show(rt, left_of(&sheet, all, k, floor))?;
+            found = found.and(left_of(&sheet, all, k, floor));
         }
     }
-    println!(rt, "")
+    found
 }
 
 // A ring of five marks, and a path of four.
@@ -116,16 +136,18 @@ pub fn worked(rt: &LibcRuntime) -> io::Result<()> {
     for i in 0..5usize {
         ring.set(i, (i + 1) % 5, true);
     }
-    print!(rt, "pentagon, k 2, floors 3 and 4:")?;
-    entered(rt, 5, &ring, 2, 3, 4)?;
+    print!(rt, "pentagon, k 2, floor 3:")?;
+    entered(5, &ring, 2, 3, 3).show(rt)?;
+    print!(rt, "pentagon, k 2, floor 4:")?;
+    entered(5, &ring, 2, 4, 4).show(rt)?;
     print!(rt, "pentagon, k 1, floor 2:")?;
-    entered(rt, 5, &ring, 1, 2, 2)?;
+    entered(5, &ring, 1, 2, 2).show(rt)?;
     let mut path = Listing::empty();
     path.set(0, 1, true);
     path.set(1, 2, true);
     path.set(2, 3, true);
     print!(rt, "path of four, k 2, floor 3:")?;
-    entered(rt, 4, &path, 2, 3, 3)
+    entered(4, &path, 2, 3, 3).show(rt)
 }
 
 // The next of a row of numbers that look like chance.
@@ -146,17 +168,19 @@ pub fn generated(rt: &LibcRuntime, marks: u32) -> io::Result<()> {
                 }
             }
         }
-        by_k(rt, marks, tenths, &all)?;
+        print!(rt, "{marks} marks, {tenths} tenths:")?;
+        by_k(marks, &all).show(rt)?;
     }
     Ok(())
 }
 
-fn by_k(rt: &LibcRuntime, marks: u32, tenths: u32, all: &Listing) -> io::Result<()> {
-    for k in [1u32, 2, 3, 4, 6, 16] {
-        print!(rt, "{marks} marks, {tenths} tenths, k {k}:")?;
-        entered(rt, marks, all, k, 0, marks)?;
+// For every k, and every floor up to one at which nothing can be left.
+fn by_k(marks: u32, all: &Listing) -> Left {
+    let mut found = Left::nothing();
+    for k in 1..17u32 {
+        found = found.and(entered(marks, all, k, 0, marks.saturating_add(k)));
     }
-    Ok(())
+    found
 }
 
 // The number of the answer for five marks and two agreements, in so many places; 0 where it is accepted.
@@ -198,4 +222,62 @@ pub fn refusals(rt: &LibcRuntime) -> io::Result<()> {
         rt,
         "accepted {accepted}, k 0 {low}, k 17 {high}, 4 places for marks {few_marks}, 1 for pairs {few_pairs}, floor 129 {floor}"
     )
+}
+
+// How a sheet of so many marks that all agree is copied into a pair table, with the agreement of one mark more and mark 0.
+fn copied(marks: u32) -> u32 {
+    let mut words = [0; 384];
+    match Entry::begin(&mut words, marks.saturating_add(1)) {
+        Ok(mut entry) => {
+            for i in 0..marks {
+                for j in i..marks {
+                    let _ = entry.enter(i, j);
+                }
+            }
+            let _ = entry.enter(0, marks);
+            match PairTable::copy_of(&entry.seal()) {
+                Ok(_) => 0,
+                Err(refusal) => refusal.number(),
+            }
+        }
+        Err(not_begun) => not_begun.refusal.number(),
+    }
+}
+
+pub fn copies(rt: &LibcRuntime) -> io::Result<()> {
+    let most = copied(91);
+    let more = copied(92);
+    println!(
+        rt,
+        "copied into a pair table: 4096 agreements {most}, 4187 agreements {more}"
+    )
+}
+
+// Strikes what is there, what is there no more, a mark with itself and a mark outside, and asks for what is left.
+fn struck<S: Strike>(rt: &LibcRuntime, name: &str, table: &mut S) -> io::Result<()> {
+    let once = table.strike(1, 0);
+    let again = table.strike(0, 1);
+    let itself = table.strike(2, 2);
+    let outside = table.strike(2, 5);
+    let gone = table.agree(0, 1);
+    let other = table.agree(1, 2);
+    println!(
+        rt,
+        "{name}: struck {once}, again {again}, itself {itself}, outside {outside}; agree 0 and 1 {gone}, 1 and 2 {other}"
+    )
+}
+
+pub fn strikes(rt: &LibcRuntime) -> io::Result<()> {
+    let mut words = [0; 5];
+    if let Ok(mut entry) = Entry::begin(&mut words, 5) {
+        let _ = entry.enter(0, 1);
+        let _ = entry.enter(1, 2);
+        let sheet = entry.seal();
+        let mut bits = BitTable::copy_of(&sheet);
+        struck(rt, "bit table", &mut bits)?;
+        if let Ok(mut pairs) = PairTable::copy_of(&sheet) {
+            struck(rt, "pair table", &mut pairs)?;
+        }
+    }
+    Ok(())
 }

@@ -9,7 +9,8 @@ use Rattle.std.specs.declared.result.Result.the-variants.{Ok, Err}
 use Rattle.std.specs.declared.option.Option.{Option}
 use Rattle.std.specs.declared.option.Option.the-variants.{Some, None}
 use Rattle.queue.specs.declared.ring.Queue.{Queue}
-use Rattle.queue.specs.declared.ring.Full.{Full}
+use Rattle.queue.specs.declared.ring.QueueRefusal.{QueueRefusal}
+use Rattle.queue.specs.declared.ring.QueueRefusal.the-variants.{Full}
 use Rattle.queue.specs.Waits.{held, waiting, next-place, Put, Took}
 use Rattle.queue.proofs.Rings.{around-length}
 
@@ -27,16 +28,16 @@ pub put-more : {T : Type 0} (q : Queue T) (x : T) (v : ℕ) (q′ : Queue T) →
 put-more q x v q′ p = ap length (p .2) ∙ length-append (waiting q) (x ∷ [])
 
 -- a push makes at most one more wait
-pub put-length : {T : Type 0} (q : Queue T) (x : T) (r : Result ℕ Full) (q′ : Queue T) → Put q x r q′ →
+pub put-length : {T : Type 0} (q : Queue T) (x : T) (r : Result ℕ QueueRefusal) (q′ : Queue T) → Put q x r q′ →
     length (waiting q′) ≤ length (waiting q) + 1
 put-length q x (Ok v) q′ p = omega (arith, put-more q x v q′ p)
-put-length q x (Err full) q′ p = omega (arith, ap (λ (k : Queue _). length (waiting k)) (p .1))
+put-length q x (Err Full) q′ p = omega (arith, ap (λ (k : Queue _). length (waiting k)) (p .1))
 
 -- a push leaves as many places as there were
-pub put-places : {T : Type 0} (q : Queue T) (x : T) (r : Result ℕ Full) (q′ : Queue T) → Put q x r q′ →
+pub put-places : {T : Type 0} (q : Queue T) (x : T) (r : Result ℕ QueueRefusal) (q′ : Queue T) → Put q x r q′ →
     length (held q′) ≡ length (held q)
 put-places q x (Ok v) q′ p = ap length (p .3) ∙ length-set (held q) (next-place q) x
-put-places q x (Err full) q′ p = ap (λ (k : Queue _). length (held k)) (p .1)
+put-places q x (Err Full) q′ p = ap (λ (k : Queue _). length (held k)) (p .1)
 
 -- a pop makes one less wait, where any waits
 pub took-length : {T : Type 0} (q : Queue T) (r : Option T) (q′ : Queue T) → Took q r q′ →

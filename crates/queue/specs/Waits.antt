@@ -9,11 +9,12 @@ use Rattle.std.specs.declared.result.Result.the-variants.{Ok, Err}
 use Rattle.std.specs.declared.option.Option.{Option}
 use Rattle.std.specs.declared.option.Option.the-variants.{Some, None}
 use Rattle.queue.specs.declared.ring.Queue.{Queue}
-use Rattle.queue.specs.declared.ring.Full.{Full}
+use Rattle.queue.specs.declared.ring.QueueRefusal.{QueueRefusal}
+use Rattle.queue.specs.declared.ring.QueueRefusal.the-variants.{Full}
 
 -- the number of the refusal
-abbrev pub number : Full → ℕ
-number full = 45
+abbrev pub number : QueueRefusal → ℕ
+number Full = 45
 
 -- n elements from place h on, around the end
 abbrev pub around : {T : Type 0} → List T → ℕ → ℕ → List T
@@ -33,7 +34,7 @@ next-place q = (q .head + q .len) % length (held q)
 
 -- x is put behind all that wait, into the next place and no other, and the place after it is the next; or as many wait as there
 -- are places, and nothing changes; the queue stays over the same lent places
-abbrev pub Put : {T : Type 0} → Queue T → T → Result ℕ Full → Queue T → Type 0
+abbrev pub Put : {T : Type 0} → Queue T → T → Result ℕ QueueRefusal → Queue T → Type 0
 Put q x (Ok v) q′ =
     (v ≡ 0)
     × (length (waiting q) < length (held q))
@@ -41,7 +42,7 @@ Put q x (Ok v) q′ =
     × (held q′ ≡ set (held q) (next-place q) x)
     × (next-place q′ ≡ (next-place q + 1) % length (held q))
     × (name (q′ .places) ≡ name (q .places))
-Put q x (Err full) q′ = (length (waiting q) ≡ length (held q)) × (q′ ≡ q)
+Put q x (Err Full) q′ = (length (waiting q) ≡ length (held q)) × (q′ ≡ q)
 
 -- the first that waits is taken, no place is written, and the next place stays; or none waits, and nothing changes;
 -- the queue stays over the same lent places

@@ -1,8 +1,8 @@
 //! Queues: first in, first out, over places that the caller lends, and nothing allocated.
 pub mod ring;
 
-pub use ring::Full;
 pub use ring::Queue;
+pub use ring::QueueRefusal;
 
 #[cfg(test)]
 mod tests {

@@ -13,8 +13,11 @@ pub struct Queue<'a, T> {
     ghost inside: { head ≤ length (now places) },
 }
 
-// As many wait as there are places.
+// Why an element may not wait.
 #[derive(Clone, Copy)]
-pub struct Full;
+pub enum QueueRefusal {
+    // as many wait as there are places
+    Full,
+}
 
 mod calls;

@@ -1,5 +1,6 @@
 // What every kind of sheet answers.
 ghost use mathlib.Core.Path.{_≡_};
+ghost use mathlib.Core.Bool.{false};
 ghost use mathlib.Core.List.{List};
 ghost use Prim.Native.Nat.{ℕ};
 ghost use Rattle.plex.specs.Meaning.{Meaning, Struck};
@@ -42,5 +43,6 @@ pub trait Strike: Sheet {
     fn strike(&mut self, i: u32, j: u32) -> bool
         ensures said { λ r. ⌜ r ≡ Self·Sheet .meaning (now (self .entry)) .agrees i j ⌝ }
         ensures struck { λ _. ⌜ Struck (Self·Sheet .meaning (now (self .entry))) i j (Self·Sheet .meaning (now (self .exit))) ⌝ }
-        ensures lasts { λ _. ⌜ lasting (now (self .exit)) ≡ lasting (now (self .entry)) ⌝ };
+        ensures lasts { λ _. ⌜ lasting (now (self .exit)) ≡ lasting (now (self .entry)) ⌝ }
+        ensures idle { λ r. ⌜ (r ≡ false → now (self .exit) ≡ now (self .entry)) ⌝ };
 }

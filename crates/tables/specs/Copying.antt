@@ -14,24 +14,27 @@ use Rattle.fileword.specs.Layout.{kind}
 use Rattle.tables.specs.Pairs.{row-pairs, pairs-to}
 use Rattle.tables.specs.Meanings.{pair-table-meaning}
 use Rattle.tables.specs.declared.pairs.PairTable.{PairTable}
-use Rattle.tables.specs.declared.pairs.TooManyAgreements.{TooManyAgreements}
+use Rattle.tables.specs.declared.pairs.TableRefusal.{TableRefusal}
+use Rattle.tables.specs.declared.pairs.TableRefusal.the-variants.{TooManyAgreements}
 use Rattle.tables.specs.declared.pairs.listing.PairList.{PairList}
 
 -- the number of the refusal
-abbrev pub number : TooManyAgreements → ℕ
-number e = 31
+abbrev pub number : TableRefusal → ℕ
+number TooManyAgreements = 31
 
 -- a table of pairs has the marks and the agreement of a sheet, and no word is struck
 pub record Pair-copy (m : Meaning) (t : PairTable) : Type 0 where
   pub fits : agreements (m .marks) (m .agrees) ≤ 4096
   pub marks : t .marks ≡ m .marks
   pub agrees : pair-table-meaning t .agrees ≡ m .agrees
+  -- the words of the pairs in their order; the others are 0, as in every table
+  pub front : take (t .len) (t .words) ≡ pairs-to (m .marks) (m .marks) (m .agrees)
   pub fresh : (p : ℕ) → (getD (t .words) p 0 ≡ 0) ⊎ (kind (getD (t .words) p 0) ≡ 2)
 
 -- a sheet is copied if it has at most 4,096 agreements
-abbrev pub Copied : Meaning → Result PairTable TooManyAgreements → Type 0
+abbrev pub Copied : Meaning → Result PairTable TableRefusal → Type 0
 Copied m (Ok t) = Pair-copy m t
-Copied m (Err e) = 4096 < agreements (m .marks) (m .agrees)
+Copied m (Err TooManyAgreements) = 4096 < agreements (m .marks) (m .agrees)
 
 -- the words of a list
 abbrev pub listed : PairList → List ℕ
@@ -46,6 +49,6 @@ abbrev pub Row-added : List ℕ → ℕ → ℕ → Set → Bool → List ℕ �
 Row-added xs i n s r ys = (r ≡ true → ys ≡ xs ++ row-pairs i n s) × (r ≡ false → 4096 < length xs + card n (s ∖ below (i + 1)))
 
 -- the words of all pairs were listed, or there was no room for them
-abbrev pub Listed : Meaning → Result PairList TooManyAgreements → Type 0
+abbrev pub Listed : Meaning → Result PairList TableRefusal → Type 0
 Listed m (Ok l) = listed l ≡ pairs-to (m .marks) (m .marks) (m .agrees)
-Listed m (Err e) = 4096 < agreements (m .marks) (m .agrees)
+Listed m (Err TooManyAgreements) = 4096 < agreements (m .marks) (m .agrees)

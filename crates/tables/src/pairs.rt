@@ -17,9 +17,12 @@ pub struct PairTable {
     ghost rising: { (p q : ℕ) → out-of-order words len p q ≡ false },
 }
 
-// A sheet has more than 4,096 agreements.
-#[derive(Clone, Copy, PartialEq, Eq)]
-pub struct TooManyAgreements;
+// Why a sheet is not copied.
+#[derive(Clone, Copy)]
+pub enum TableRefusal {
+    // more than 4,096 agreements
+    TooManyAgreements,
+}
 
 pub mod copying;
 mod listing;

@@ -5,15 +5,17 @@ ghost use lib.Dec.{eqb};
 ghost use lib.ListN.{length};
 ghost use denote.Ref.{name};
 ghost use Rattle.queue.specs.Waits.{held, waiting, next-place, number, Put, Took};
-use super::Full;
 use super::Queue;
+use super::QueueRefusal;
 
-impl Full {
+impl QueueRefusal {
     // The number of the refusal.
     pub fn number(self) -> u32
         ensures { λ r. ⌜ r ≡ number self ⌝ }
     {
-        45
+        match self {
+            QueueRefusal::Full => 45,
+        }
     }
 }
 
@@ -47,12 +49,12 @@ impl<'a, T: Copy> Queue<'a, T> {
     }
 
     // Puts x behind all that wait; where as many wait as there are places, it is refused.
-    pub fn push(&mut self, x: T) -> Result<u32, Full>
+    pub fn push(&mut self, x: T) -> Result<u32, QueueRefusal>
         ensures { λ r. ⌜ Put (now (self .entry)) x r (now (self .exit)) ⌝ }
     {
         let all = self.places.len();
         if self.len == all {
-            return Err(Full);
+            return Err(QueueRefusal::Full);
         }
         let room = all - self.head;
         let at = if self.len < room {

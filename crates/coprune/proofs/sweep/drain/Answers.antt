@@ -21,5 +21,6 @@ returns g c =
     record {
       wears = wears-on (c .args .limits .ends) (c .args .limits .shared) (mean (c .args .sheet .now)) (mean (c .loop-limits .sheet)) (mean (c .look-at-next .last .sheet))
           (c .loop-limits .inv .0) (next .wears);
+      over = next .over (c .loop-limits-test .left);
       lasts = next .lasts ∙ c .loop-limits .inv .1;
     }

@@ -4,7 +4,7 @@ use mathlib.Core.Bool.{Bool, true, false}
 use Prim.Native.Nat.{ℕ, _+_, _≤_, _<_}
 use native.Mathlib.Omega.{arith}
 use lib.ListN.{length}
-use Rattle.std.proofs.shelf.Tests.{cases-bool}
+use Rattle.std.proofs.shelf.Tests.{cases-bool, true≢false}
 use Rattle.queue.specs.declared.ring.Queue.{Queue}
 use Rattle.queue.specs.Waits.{held, waiting}
 use Rattle.queue.proofs.Lengths.{waiting-fits}
@@ -37,6 +37,7 @@ returns-in-Some g c =
     record {
       wears = wears;
       lasts = said .lasts;
+      over = λ e. absurd (true≢false e);
       falls = λ _. falls m m′ p (c .look-among .last .marks) q (c .look-among .last .pairs) (c .look-among .result)
           (said .places .0 ∙ ap length (took .1)) (said .places .1)
           (wears-fewer (c .args .limits .ends) (c .args .limits .shared) m m′ wears) (said .looks .fewer)
@@ -61,6 +62,7 @@ returns-in-Some-pop g c =
     record {
       wears = wears;
       lasts = said .lasts;
+      over = λ e. absurd (true≢false e);
       falls = λ _. falls m m′ p (c .look-at-pair .last .marks) q (c .look-at-pair .last .pairs) (c .look-at-pair .result)
           (said .places .0 ∙ ap (λ (t : Queue ℕ). length (held t)) (none .1)) (said .places .1 ∙ ap length (took .1))
           (wears-fewer (c .args .limits .ends) (c .args .limits .shared) m m′ wears) (said .looks .fewer)

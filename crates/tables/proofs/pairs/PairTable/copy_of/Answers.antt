@@ -39,5 +39,6 @@ returns g c =
       marks = e;
       agrees =
           made-agrees (l .words) (l .len) n (m .marks) (m .agrees) e (m .few) room is (l .blank) (m .symmetric) (m .irreflexive) (m .inside);
+      front = is;
       fresh = made-fresh (l .words) (l .len) n (m .marks) (m .agrees) e (m .few) room is (l .blank);
     }

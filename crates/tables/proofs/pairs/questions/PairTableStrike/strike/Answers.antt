@@ -4,6 +4,7 @@ use Prim.Native.Nat.{_%_, _^_, _<_, min, max}
 use native.Mathlib.Omega.{arith}
 use lib.Dec.{eqb}
 use lib.ListN.{set}
+use Rattle.std.proofs.shelf.Tests.{true≢false}
 use Rattle.fileword.specs.Layout.{kind, pair-word}
 use Rattle.pairing.specs.Naming.{names}
 use Rattle.tables.proofs.Among.{among-at}
@@ -51,5 +52,6 @@ returns-in-Some c =
             gone (t .words) (t .len) (t .marks) at w (t .few) (f .0) (f .1) (f .2) two (t .each) (t .rising) p q h k
             ∙ ap (λ v. names (t .words) p q && not (eqb (pair-word p q) v)) e);
       };
+      idle = λ e. absurd (true≢false e);
       lasts = lasts (t .words) (t .len) (t .marks) at w (t .few) (f .0) (f .1) (f .2) two (t .each) (t .rising);
     }
