@@ -10,7 +10,7 @@ pub record Co-pruning : Type 0 where
   pub exists : (n a b : ℕ) (r : Agreement) → Among n r → Two-way r → (g : Agreement) × Largest n a b r g
   -- enough rounds, each of which strikes all that offends, compute it
   pub by-rounds : (n a b : ℕ) (r : Agreement) → Among n r → Two-way r → Largest n a b r (rounds (n * n) n a b r)
-  -- and there is one
+  -- and there is only one
   pub unique : (n a b : ℕ) (r g h : Agreement) → Largest n a b r g → Largest n a b r h → g ≡ h
   -- striking an agreement that offends strikes none of a good set
   pub safe : (n a b : ℕ) (g h : Agreement) (u v : ℕ) → Good n a b h → h ⊑ g → Offends n a b g u v → h ⊑ struck u v g
