@@ -1,4 +1,6 @@
 // Reads a file on standard input and prints what is found of it.
+#![tactic(auto)]
+
 use page::print::page;
 use std::io;
 use std::io::{Read, Write};

@@ -1,4 +1,6 @@
 // A table of cases: what is printed of good and bad files, and what sheets answer.
+#![tactic(auto)]
+
 mod files;
 mod sheets;
 

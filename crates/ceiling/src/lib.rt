@@ -1,4 +1,6 @@
 //! Theory of ceiling rules: what a rule means, its law, the formulas of the rules, and that they keep the law.
+#![tactic(auto)]
+
 ghost use Rattle.ceiling.specs.Laws.{FormulasStand, RulesAreLawful};
 
 // The formulas give the smallest numbers that the rules name, and no others do.

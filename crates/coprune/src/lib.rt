@@ -1,4 +1,6 @@
 //! Co-pruning: strikes the agreements that no k-plex of more than a number of marks can use.
+#![tactic(auto)]
+
 mod limits;
 pub mod look;
 pub mod prune;

@@ -1,4 +1,6 @@
 //! The group that a search holds first.
+#![tactic(auto)]
+
 mod degrees;
 pub mod group;
 

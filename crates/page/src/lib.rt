@@ -1,4 +1,6 @@
 //! From a file's bytes to the bytes that are printed of it.
+#![tactic(auto)]
+
 pub mod print;
 pub mod verdict;
 mod words;

@@ -1,4 +1,6 @@
 //! Pair words: which marks a run of words names as pairs.
+#![tactic(auto)]
+
 ghost use Rattle.std.specs.Prelude.{◌≡◌, ◌≤◌, min};
 ghost use Rattle.plex.specs.Meaning.{agree_by};
 ghost use Rattle.plex.specs.Words.{holds};

@@ -1,4 +1,6 @@
 //! Theory: sets of marks, words that hold them, agreement and k-plexes. Each function's contract is a theorem.
+#![tactic(auto)]
+
 ghost use Rattle.plex.specs.Laws.{PartsArePlexes, TestFindsPlexes, LeastFound, Counting, WordsHoldSets, WordsCombine, Rises, SightedBothWays};
 
 // Every part of a k-plex is a k-plex.

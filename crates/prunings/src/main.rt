@@ -1,5 +1,7 @@
 // A table of co-prunings: on both kinds of table, against a plain listing that strikes until nothing changes.
 // With an argument it prints how long co-pruning takes on 128 marks.
+#![tactic(auto)]
+
 mod listing;
 mod sheets;
 mod timing;

@@ -1,4 +1,6 @@
 //! Queues: first in, first out, over places that the caller lends, and nothing allocated.
+#![tactic(auto)]
+
 pub mod ring;
 
 pub use ring::{Queue, QueueRefusal};

@@ -1,4 +1,6 @@
 //! Ceiling rules: how many marks a k-plex has at most that contains one set of marks and lies in it and another.
+#![tactic(auto)]
+
 pub mod degree;
 pub mod pair;
 pub mod rules;

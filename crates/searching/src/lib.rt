@@ -1,4 +1,6 @@
 //! Theory of the search: what making and each call do, and the law over every list of calls. Each function's contract is a theorem.
+#![tactic(auto)]
+
 ghost use Rattle.searching.specs.Law.{LawOverRuns};
 ghost use Rattle.searching.specs.Facts.{FirstGroupStands, FewBranches, OffersAreTaken};
 ghost use Rattle.searching.specs.Exactness.{MakingIsExact, CallsAreExact, ComputedIsTheSame};

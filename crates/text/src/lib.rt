@@ -1,4 +1,6 @@
 //! Text in pages: at most 512 bytes, held by value, and nothing allocated.
+#![tactic(auto)]
+
 pub mod page;
 
 pub use page::Page;
