@@ -32,7 +32,7 @@ returns t c =
     let digit : shown c.push.new.self ≡ take 512 (shown was ++ last n) = c.push.ensures in
     elim c.if-n-ge10.branch [
       | then-n-ge10 w ↦
-          let front : shown w.push-number.new.self ≡ take 512 (xs ++ decimal (n / 10)) = w.push-number.ensures in
+          let front : shown w.push_number.new.self ≡ take 512 (xs ++ decimal (n / 10)) = w.push_number.ensures in
           more_digits 512 n xs w.if-n-ge10.true (omega arith) (ap shown w.self-is ∙ front) digit
       | else-n-ge10 w ↦
           digit ∙ ap (λ (p : Page). take 512 (shown p ++ last n)) w.self-is ∙ one_digit 512 n xs w.if-n-ge10.false
