@@ -1,15 +1,15 @@
 -- A coordinate in 14 bits, and back.
 use Rattle.std.proofs.Common.{◌≡◌, ℕ, ◌-◌, ◌^◌, ◌<◌, ltb, ℤ, pos, negsuc, ap, ◌∙◌, inl, inr, arith}
 use Rattle.std.proofs.lemmas.Int.{ints}
-use Rattle.std.proofs.lemmas.Bool.{cases_lt, cond_true, cond_false, lt-ltb, le-ltb}
+use Rattle.std.proofs.lemmas.Bool.{cases_lt, cond-true, cond-false, lt-ltb, le-ltb}
 use Rattle.fileword.specs.Layout.{fourteen_bits, coordinate}
 use Rattle.fileword.specs.Files.{Coordinate}
 
 coordinate_low : (v : ℕ) → v < 8192 → coordinate v ≡ pos v
-coordinate_low v h = cond_true (ltb v 8192) (pos v) (negsuc (16383 - v)) (lt-ltb v 8192 h)
+coordinate_low v h = cond-true (ltb v 8192) (pos v) (negsuc (16383 - v)) (lt-ltb v 8192 h)
 
 coordinate_high : (v : ℕ) → 8191 < v → coordinate v ≡ negsuc (16383 - v)
-coordinate_high v h = cond_false (ltb v 8192) (pos v) (negsuc (16383 - v)) (le-ltb v 8192 (omega arith))
+coordinate_high v h = cond-false (ltb v 8192) (pos v) (negsuc (16383 - v)) (le-ltb v 8192 (omega arith))
 
 -- every 14 bits are a coordinate
 pub coordinate_within : (v : ℕ) → v < 2 ^ 14 → Coordinate (coordinate v)

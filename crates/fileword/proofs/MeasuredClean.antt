@@ -2,7 +2,7 @@
 use Rattle.std.proofs.Common.{◌≡◌, ℕ, zero, suc, ◌+◌, ◌-◌, ◌*◌, ◌/◌, ◌%◌, ◌^◌, ◌<◌, ◌≤◌, true, false, ◌⊎◌, List, length, get_or, sym, refl, ap, ◌∙◌, inl, inr, arith}
 use Rattle.std.specs.List.{AllByRecursion as All}
 use Rattle.std.proofs.ByRecursion.{All-get_or}
-use Rattle.std.proofs.lemmas.Bool.{cases_lt, eq-eqb, cond_true}
+use Rattle.std.proofs.lemmas.Bool.{cases_lt, eq-eqb, cond-true}
 use Rattle.plex.specs.Distance.{Sighting}
 use Rattle.fileword.specs.Layout.{kind, load, upper, head_word, end_word, point_of}
 use Rattle.fileword.specs.Files.{OnDome, sighting_words, measured_file}
@@ -98,7 +98,7 @@ module _ (n k t : ℕ) (ss : List Sighting) (few : n ≤ 128) (low : 1 ≤ k) (h
       elim (each j l) [
         | inl g ↦ absurd (omega (arith, g.1))
         | inr g ↦ ap load (end_there j g.0) ∙ load_word 15 n (omega arith)
-            ∙ sym (cond_true (measured file) (marks_said file) (suc (suc j) - 1) is_measured_lem ∙ said_marks)
+            ∙ sym (cond-true (measured file) (marks_said file) (suc (suc j) - 1) is_measured_lem ∙ said_marks)
       ]
 
   rest : (j : ℕ) → suc (suc j) < length file → in_measured (marks_said file) (suc (suc j)) (kind (at file (suc (suc j)))) ≡ true
@@ -132,4 +132,4 @@ module _ (n k t : ℕ) (ss : List Sighting) (few : n ≤ 128) (low : 1 ≤ k) (h
   pub measured_file_said : said file ≡ record { form = Measured; marks = n; k = k }
   measured_file_said =
       same_summary (said file) (record { form = Measured; marks = n; k = k })
-      (cond_true (measured file) Measured Pairs is_measured_lem) said_marks (k_of_head n k (omega arith) (omega arith))
+      (cond-true (measured file) Measured Pairs is_measured_lem) said_marks (k_of_head n k (omega arith) (omega arith))

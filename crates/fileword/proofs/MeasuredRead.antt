@@ -4,7 +4,7 @@ use Rattle.std.specs.List.{range_with_len}
 use Rattle.std.proofs.lemmas.List.{ext_get_or}
 use Rattle.std.proofs.ByRecursion.{All-from_get_or}
 use Rattle.std.proofs.lemmas.List.FromFn.{length-map-range_with_len, get_or-map-range_with_len}
-use Rattle.std.proofs.lemmas.Bool.{cases_lt, cases_eq, cond_true, eqb-true}
+use Rattle.std.proofs.lemmas.Bool.{cases_lt, cases_eq, cond-true, eqb-true}
 use Rattle.plex.specs.Distance.{Sighting}
 use Rattle.fileword.specs.Layout.{kind, load, upper, end_word}
 use Rattle.fileword.specs.Files.{OnDome, sighting_words, measured_file, MeasuredFile}
@@ -84,7 +84,7 @@ module _ (wanted : Wanted) (ws : List ℕ) (c : Clean wanted ws) (yes : measured
   end_written : end_word (marks_said ws) ≡ at ws (2 + 4 * marks_said ws)
   end_written =
       let e = c.ends (2 + 4 * marks_said ws) (omega (arith, long)) final_kind in
-      let f = e ∙ cond_true (measured ws) (marks_said ws) (2 + 4 * marks_said ws - 1) yes in
+      let f = e ∙ cond-true (measured ws) (marks_said ws) (2 + 4 * marks_said ws - 1) yes in
       omega (arith, final_kind, word_back (at ws (2 + 4 * marks_said ws)))
 
   abbrev file : List ℕ

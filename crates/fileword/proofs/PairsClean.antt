@@ -2,7 +2,7 @@
 use Rattle.std.proofs.Common.{◌≡◌, ℕ, zero, suc, ◌-◌, ◌/◌, ◌^◌, ◌<◌, ◌≤◌, true, false, ◌⊎◌, List, length, get_or, sym, refl, ap, ◌∙◌, inl, inr, arith}
 use Rattle.std.specs.List.{AllByRecursion as All}
 use Rattle.std.proofs.ByRecursion.{All-get_or}
-use Rattle.std.proofs.lemmas.Bool.{cases_lt, ne_eqb, eq-eqb, cond_false}
+use Rattle.std.proofs.lemmas.Bool.{cases_lt, ne_eqb, eq-eqb, cond-false}
 use Rattle.fileword.specs.Layout.{kind, load, upper, lower, head_word}
 use Rattle.fileword.specs.Files.{Pair, NamesMarks, RisingPairs, pair_file}
 use Rattle.fileword.specs.Faults.{at, marks_said, measured, may_stand_lem, in_pairs, spare_set_lem, pair_fits, comes_after_lem, end_load_lem, takes}
@@ -102,7 +102,7 @@ module _ (n k : ℕ) (ps : List Pair) (few : n ≤ 128) (low : 1 ≤ k) (high : 
       elim (each i l) [
         | inl g ↦ absurd (omega (arith, g.1))
         | inr g ↦ ap (λ j. load (at file (suc j))) g.0 ∙ end_holds
-            ∙ sym (cond_false (measured file) (marks_said file) (suc i - 1) not_measured ∙ omega (arith, g.0))
+            ∙ sym (cond-false (measured file) (marks_said file) (suc i - 1) not_measured ∙ omega (arith, g.0))
       ]
 
   spares : (p : ℕ) → p < length file → spare_set_lem (at file p) ≡ false
@@ -141,4 +141,4 @@ module _ (n k : ℕ) (ps : List Pair) (few : n ≤ 128) (low : 1 ≤ k) (high : 
   pub pair_file_said : said file ≡ record { form = Pairs; marks = n; k = k }
   pair_file_said =
       same_summary (said file) (record { form = Pairs; marks = n; k = k })
-      (cond_false (measured file) Measured Pairs not_measured) said_marks (k_of_head n k (omega arith) (omega arith))
+      (cond-false (measured file) Measured Pairs not_measured) said_marks (k_of_head n k (omega arith) (omega arith))

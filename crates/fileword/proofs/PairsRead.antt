@@ -4,7 +4,7 @@ use Rattle.std.specs.List.{range_with_len}
 use Rattle.std.proofs.lemmas.List.{ext_get_or}
 use Rattle.std.proofs.ByRecursion.{All-from_get_or}
 use Rattle.std.proofs.lemmas.List.FromFn.{length-map-range_with_len, get_or-map-range_with_len}
-use Rattle.std.proofs.lemmas.Bool.{cases_lt, cases_eq, cond_false}
+use Rattle.std.proofs.lemmas.Bool.{cases_lt, cases_eq, cond-false}
 use Rattle.fileword.specs.Layout.{kind, load, upper, lower, end_word}
 use Rattle.fileword.specs.Files.{Pair, NamesMarks, ComesBefore, pair_file, PairFile}
 use Rattle.fileword.specs.Faults.{at, marks_said, k_said, measured, in_pairs, pair_fits, comes_after_lem}
@@ -80,7 +80,7 @@ module _ (wanted : Wanted) (ws : List ℕ) (c : Clean wanted ws) (no : measured 
     end_written : end_word m ≡ at ws (suc m)
     end_written =
         let e = c.ends (suc m) (omega arith) final in
-        let f : load (at ws (suc m)) ≡ m = e ∙ cond_false (measured ws) (marks_said ws) (suc m - 1) no ∙ omega arith in
+        let f : load (at ws (suc m)) ≡ m = e ∙ cond-false (measured ws) (marks_said ws) (suc m - 1) no ∙ omega arith in
         omega (arith, word_back (at ws (suc m)))
 
     same : (p : ℕ) → p < 2 + m → at ws p ≡ at (pair_file (marks_said ws) (k_said ws) (pairs_at ws m)) p

@@ -11,7 +11,7 @@ returns c =
     let vs = c.args.other.words in
     let l : length us ≡ 4 = search rules in
     let m : length vs ≡ 4 = search rules in
-    ap holds c.from-words.ensures
+    ap holds c.from_words.ensures
     ∙ each_of_four ◌&&◌ us vs _ _ _ _ refl l m
     (λ i _. bits_of_and (get_or us 0 0) (get_or vs 0 0) i)
     (λ i _. bits_of_and (get_or us 1 0) (get_or vs 1 0) i)

@@ -4,8 +4,8 @@ use Rattle.plex.proofs.Count.{card_none}
 use Rattle.marks.proofs.First.{zeros_none}
 use Rattle.marks.proofs.set.MarkSet.empty.Goals as goal
 
-pub invariant-of-result : goal.invariant-of-result
-invariant-of-result c = (sym (ap (card 128) zeros_none ∙ card_none 128 none (λ i _. refl)), tt)
+pub invariant_of-result : goal.invariant_of-result
+invariant_of-result c = (sym (ap (card 128) zeros_none ∙ card_none 128 none (λ i _. refl)), tt)
 
 pub returns : goal.returns
 returns c = zeros_none

@@ -3,30 +3,30 @@ use lib.Count.{ones-le}
 use Rattle.marks.proofs.Four.{card_four}
 use Rattle.marks.proofs.set.MarkSet.from_words.Goals as goal
 
-pub overflow-add-count : goal.overflow-add-count
-overflow-add-count c =
-    omega (arith, ones-le 32 (get_or c.args.words 0 0) c.element-fits.ranges, ones-le 32 (get_or c.args.words 1 0) c.element-fits2.ranges)
+pub overflow_add-count : goal.overflow_add-count
+overflow_add-count c =
+    omega (arith, ones-le 32 (get_or c.args.words 0 0) c.element_fits.ranges, ones-le 32 (get_or c.args.words 1 0) c.element-fits2.ranges)
 
-pub overflow-add-count-2 : goal.overflow-add-count-2
-overflow-add-count-2 c =
+pub overflow_add-count-2 : goal.overflow_add-count-2
+overflow_add-count-2 c =
     omega (
       arith,
-      ones-le 32 (get_or c.args.words 0 0) c.element-fits.ranges,
+      ones-le 32 (get_or c.args.words 0 0) c.element_fits.ranges,
       ones-le 32 (get_or c.args.words 1 0) c.element-fits2.ranges,
       ones-le 32 (get_or c.args.words 2 0) c.element-fits3.ranges,
     )
 
-pub overflow-add-count-3 : goal.overflow-add-count-3
-overflow-add-count-3 c =
+pub overflow_add-count-3 : goal.overflow_add-count-3
+overflow_add-count-3 c =
     omega (
       arith,
-      ones-le 32 (get_or c.args.words 0 0) c.element-fits.ranges,
+      ones-le 32 (get_or c.args.words 0 0) c.element_fits.ranges,
       ones-le 32 (get_or c.args.words 1 0) c.element-fits2.ranges,
       ones-le 32 (get_or c.args.words 2 0) c.element-fits3.ranges,
       ones-le 32 (get_or c.args.words 3 0) c.element-fits4.ranges,
     )
 
-pub invariant-of-result : goal.invariant-of-result
-invariant-of-result c =
+pub invariant_of-result : goal.invariant_of-result
+invariant_of-result c =
     let l : length c.args.words ≡ 4 = search rules in
-    (sym (card_four c.args.words l c.element-fits.ranges c.element-fits2.ranges c.element-fits3.ranges c.element-fits4.ranges), tt)
+    (sym (card_four c.args.words l c.element_fits.ranges c.element-fits2.ranges c.element-fits3.ranges c.element-fits4.ranges), tt)

@@ -9,6 +9,6 @@ returns c =
     let vs = c.args.other.words in
     let l : length us ≡ 4 = search rules in
     let m : length vs ≡ 4 = search rules in
-    ap holds c.from-words.ensures
+    ap holds c.from_words.ensures
     ∙ each_of_four (λ a b. a && not b) us vs _ _ _ _ refl l m
-    c.and-not.ensures c.and-not-2.ensures c.and-not-3.ensures c.and-not-4.ensures
+    c.and_not.ensures c.and_not-2.ensures c.and_not-3.ensures c.and_not-4.ensures

@@ -19,11 +19,11 @@ returns-then-mark-ge128 c =
       outside = λ _. refl;
     }
 
-pub overflow-add-result : goal.overflow-add-result
-overflow-add-result c = omega (arith, c.args.self.counted, card_le 128 (holds c.args.self.words))
+pub overflow_add-result : goal.overflow_add-result
+overflow_add-result c = omega (arith, c.args.self.counted, card_le 128 (holds c.args.self.words))
 
-pub invariant-of-result : goal.invariant-of-result
-invariant-of-result c =
+pub invariant_of-result : goal.invariant_of-result
+invariant_of-result c =
     let ws = c.args.self.words in
     let i = c.args.mark in
     let l : length ws ≡ 4 = search rules in (

@@ -16,13 +16,13 @@ returns-then-mark-ge128 c =
       | then-mark-ge128-via-else-mark-ge128+then-not-has w ↦ without_there (holds ws) i (sym w.has.ensures.inside ∙ w.if-not-has.true)
     ]
 
-pub overflow-sub-result : goal.overflow-sub-result
-overflow-sub-result c =
+pub overflow_sub-result : goal.overflow_sub-result
+overflow_sub-result c =
     let s = holds c.args.self.words in
     omega (arith, c.args.self.counted, card_less 128 s c.args.mark c.if-mark-ge128.false (sym c.if-not-has.ensures.inside))
 
-pub invariant-of-result : goal.invariant-of-result
-invariant-of-result c =
+pub invariant_of-result : goal.invariant_of-result
+invariant_of-result c =
     let ws = c.args.self.words in
     let i = c.args.mark in
     let l : length ws ≡ 4 = search rules in (
