@@ -26,15 +26,14 @@ pub invariant_of-result : goal.invariant_of-result
 invariant_of-result c =
     let ws = c.args.self.words in
     let i = c.args.mark in
-    let l : length ws ≡ 4 = search rules in (
-      omega (
+    let l : length ws ≡ 4 = search rules in record {
+      counted = omega (
         arith,
         c.args.self.counted,
         ap (card 128) (holds_bit_set ws i l c.if-mark-ge128.false),
         card_more 128 (holds ws) i c.if-mark-ge128.false (sym c.if-has.ensures.inside),
-      ),
-      tt,
-    )
+      );
+    }
 
 pub returns : goal.returns
 returns c =
