@@ -7,7 +7,7 @@ use Rattle.marks.specs.Members.{members}
 use Rattle.pairing.specs.Naming.{names}
 use Rattle.pairing.proofs.Naming.{named_none, named_more, or_none}
 use Rattle.pairing.proofs.row_among.Goals as goal
-use Rattle.pairing.proofs.row_among.Goals.{in-Some, in-default}
+use Rattle.pairing.proofs.row_among.Goals.{in-Some, in_default}
 
 pub loop-word-init : goal.loop-word-init
 loop-word-init c = c.empty-row.ensures ∙ sym (named_none c.min-few.result c.args.i)
@@ -23,8 +23,8 @@ loop-word-preserved c =
       | in-Some w ↦
           (let just = w.in-Some.ensures in
           ap members w.row-is ∙ w.with-row.ensures.inside just.0 ∙ ap₂ ◌∪◌ c.loop-word.invariant (sym just.1) ∙ sym more)
-      | in-default w ↦
-          (let nothing = w.in-default.ensures in
+      | in_default w ↦
+          (let nothing = w.in_default.ensures in
           ap members w.row-is ∙ c.loop-word.invariant ∙ sym (more ∙ or_none (agree_by n (names (take p ws)) i) _ nothing))
     ]
 

@@ -6,5 +6,5 @@ use Rattle.sheet.proofs.kinds.neighbours.Goals as goal
 
 pub returns : goal.returns
 returns g c =
-    let set = ap holds c.from-words.ensures ∙ c.row.ensures in
+    let set = ap holds c.from_words.ensures ∙ c.row.ensures in
     record { set = set; number = ap (card 128) set ∙ row_count (g.S.Sheet.meaning c.args.sheet.now) c.args.i }

@@ -15,7 +15,7 @@ pub returns : goal.returns
 returns c =
     let ws = c.args.words.now in
     let n = c.args.marks in
-    let e = ap (λ r. n * r) c.words-in-row.ensures in
+    let e = ap (λ r. n * r) c.words_in_row.ensures in
     let room : n * row_words n ≤ length ws = omega (arith, c.if-words-rows.false) in
     let is = cleared_front ws c.clear.new.part _ (n * row_words n) e room c.clear.ensures in
     record {

@@ -8,14 +8,14 @@ returns c =
     let e = c.args.self.now in
     let ws = e.words.now in
     let n = e.marks in
-    let ws' = c.enter-bit-2.new.self.words.now in
+    let ws' = c.enter_bit-2.new.self.words.now in
     let i = c.args.i in
     let j = c.args.j in
     let hi : i < marks_held (length ws) n = omega (arith, c.held-marks.ensures) in
     let hj : j < marks_held (length ws) n = omega (arith, c.held-marks.ensures) in
-    let one = c.enter-bit.ensures in
-    let two = c.enter-bit-2.ensures in
-    let is = two.words ∙ ap (λ xs. bit_entered xs (row_words c.enter-bit.new.self.marks) j i) one.words
+    let one = c.enter_bit.ensures in
+    let two = c.enter_bit-2.ensures in
+    let is = two.words ∙ ap (λ xs. bit_entered xs (row_words c.enter_bit.new.self.marks) j i) one.words
     ∙ ap (λ m. bit_entered (bit_entered ws (row_words n) i j) (row_words m) j i) one.marks in
     record {
       marks = two.marks ∙ one.marks;

@@ -6,12 +6,12 @@ use Rattle.sheet.proofs.Parts.{part_set, part_at}
 use Rattle.sheet.proofs.Bits.{held_few, bit_in_row, row_in_words}
 use Rattle.sheet.proofs.entry.Entry.enter_bit.Goals as goal
 
-pub slice-bounds-set-bit-end : goal.slice-bounds-set-bit-end
-slice-bounds-set-bit-end c =
+pub slice_bounds-set_bit-end : goal.slice_bounds-set_bit-end
+slice_bounds-set_bit-end c =
     let e = c.args.self.now in
     let hi = held_few (length e.words.now) e.marks c.args.i c.requires.0 in
-    let s = ap (λ r. c.args.i * r) c.words-in-row-r.ensures in
-    omega (arith, row_in_words e.marks c.args.i c.args.i hi.0 hi.0, c.words-in-row-r.ensures, hi.2)
+    let s = ap (λ r. c.args.i * r) c.words_in_row-r.ensures in
+    omega (arith, row_in_words e.marks c.args.i c.args.i hi.0 hi.0, c.words_in_row-r.ensures, hi.2)
 
 pub returns : goal.returns
 returns c =
@@ -20,10 +20,10 @@ returns c =
     let n = e.marks in
     let i = c.args.i in
     let j = c.args.j in
-    let r = c.words-in-row-r.result in
+    let r = c.words_in_row-r.result in
     let a = i * r in
     let k = a + r - a in
-    let is = c.words-in-row-r.ensures in
+    let is = c.words_in_row-r.ensures in
     let hi = held_few (length ws) n i c.requires.0 in
     let hj = held_few (length ws) n j c.requires.1 in
     let s = ap (λ x. i * x) is in
@@ -32,7 +32,7 @@ returns c =
     record {
       marks = refl;
       lent = refl;
-      words = ap (put_mid a k ws) c.set-bit.ensures ∙ part_set ws a k (j / 32) _ l p
+      words = ap (put_mid a k ws) c.set_bit.ensures ∙ part_set ws a k (j / 32) _ l p
           ∙ ap (λ (b : ℕ). set ws (a + j / 32) (bit_or b (2 ^ (j % 32)))) (part_at ws a k (j / 32) p)
           ∙ ap (λ x. bit_entered ws x i j) is;
     }
