@@ -15,7 +15,7 @@ use Rattle.fileword.proofs.ReadBack.{pairs_back}
 use Rattle.pairing.specs.Naming.{names}
 
 -- what `contains` answers
-pub among_contains : (xs : List ℕ) (x : ℕ) (r : Bool) → IsAnyAnswer (λ y t. Decides t (y ≡ x)) xs r → r ≡ among xs x
+pub among_contains : (xs : List ℕ) (x : ℕ) (r : Bool) → IsAnyAnswer (λ y t. eqb y x ≡ t) xs r → r ≡ among xs x
 among_contains xs x r h =
     same_from_decides r (among xs x) (contains_decides eqb Decides-eqb xs x r h)
     (Decides-by_or (λ y. eqb x y) (λ y. y ≡ x) (λ ys. among ys x) (λ y. Decides-like (eqb x y) sym sym (Decides-eqb x y)) refl (λ _ _. refl) xs)

@@ -5,14 +5,14 @@ use Rattle.file.proofs.faults.lacks_end.Goals as goal
 pub loop-word-init : goal.loop-word-init
 loop-word-init c = refl
 
-pub returns-then-kind-of-eq15 : goal.returns-then-kind-of-eq15
-returns-then-kind-of-eq15 c =
-    lacks_none c.args.words.now c.loop-word.word-index c.loop-word-test.true (sym c.kind-of.ensures ∙ c.if-kind-of-eq15.true)
+pub returns-then-kind_of-eq15 : goal.returns-then-kind_of-eq15
+returns-then-kind_of-eq15 c =
+    lacks_none c.args.words.now c.loop-word.word-index c.loop-word-test.true (sym c.kind_of.ensures ∙ c.if-kind_of-eq15.true)
 
 pub loop-word-preserved : goal.loop-word-preserved
 loop-word-preserved c =
     lacks_more c.args.words.now c.loop-word.word-index c.loop-word-test.true c.loop-word.invariant
-    (λ e. c.if-kind-of-eq15.false (c.kind-of.ensures ∙ e))
+    (λ e. c.if-kind_of-eq15.false (c.kind_of.ensures ∙ e))
 
 pub returns : goal.returns
 returns c =

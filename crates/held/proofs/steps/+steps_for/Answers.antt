@@ -14,6 +14,6 @@ pub returns : goal.returns
 returns t c =
     let fewer = c.args.candidates - 1 in
     let e : 1 + fewer ≡ c.args.candidates = omega arith in
-    let sum : c.saturating-add.result ≡ capped (1 + 2 * capped (steps_for_lem fewer)) =
-    omega (arith, c.saturating-add.ensures, c.saturating-mul.ensures, c.steps-for.ensures) in
+    let sum : c.saturating_add.result ≡ capped (1 + 2 * capped (steps_for_lem fewer)) =
+    omega (arith, c.saturating_add.ensures, c.saturating_mul.ensures, c.steps_for.ensures) in
     sum ∙ capped_for (steps_for_lem fewer) ∙ ap capped (sym (steps_for_more fewer)) ∙ ap (λ x. capped (steps_for_lem x)) e

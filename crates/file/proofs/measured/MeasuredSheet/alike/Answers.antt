@@ -16,14 +16,14 @@ returns c =
     let ws = c.args.self.now.words.now in
     let i = c.args.i in
     let j = c.args.j in
-    let planned = c.distance-squared-planned.ensures
+    let planned = c.distance_squared-planned.ensures
     ∙ ap₂ distance²
-    (c.point-at.ensures ∙ second ws (2 + 4 * i) (3 + 4 * i) (omega arith))
-    (c.point-at-2.ensures ∙ second ws (2 + 4 * j) (3 + 4 * j) (omega arith)) in
-    let seen = c.distance-squared-seen.ensures
+    (c.point_at.ensures ∙ second ws (2 + 4 * i) (3 + 4 * i) (omega arith))
+    (c.point_at-2.ensures ∙ second ws (2 + 4 * j) (3 + 4 * j) (omega arith)) in
+    let seen = c.distance_squared-seen.ensures
     ∙ ap₂ distance²
-    (c.point-at-3.ensures ∙ second ws (4 + 4 * i) (5 + 4 * i) (omega arith))
-    (c.point-at-4.ensures ∙ second ws (4 + 4 * j) (5 + 4 * j) (omega arith)) in
-    let tolerance = c.load-of.ensures ∙ ap load c.word-at.ensures in
-    c.is-close.ensures ∙ ap₂ (close_enough c.load-of.result) planned seen
+    (c.point_at-3.ensures ∙ second ws (4 + 4 * i) (5 + 4 * i) (omega arith))
+    (c.point_at-4.ensures ∙ second ws (4 + 4 * j) (5 + 4 * j) (omega arith)) in
+    let tolerance = c.load_of.ensures ∙ ap load c.word_at.ensures in
+    c.is_close.ensures ∙ ap₂ (close_enough c.load_of.result) planned seen
     ∙ ap (λ t. close_enough t (distance² (sighting_at ws i).planned (sighting_at ws j).planned) (distance² (sighting_at ws i).seen (sighting_at ws j).seen)) tolerance

@@ -39,14 +39,14 @@ loop-mark-preserved c =
           c.in-Some.ensures.steps inv.4,
     )
 
-pub invariant-of-result : goal.invariant-of-result
-invariant-of-result c =
+pub invariant_of-result : goal.invariant_of-result
+invariant_of-result c =
     let set = c.args.set in
     let s = members set in
     let inv = c.loop-mark.invariant in
     let marks = c.loop-mark.marks in
-    let count : set.count ≡ length (rising 128 s) = set.counted ∙ sym (length_rising 128 s) in (
-      ap (λ (m : ℕ). take m marks) count
-          ∙ listed_all marks (to_come c.loop-mark.mark-iterator) (rising 128 s) c.loop-mark.filled (omega arith) c.in-None.ensures.steps.0 inv.4,
-      tt,
-    )
+    let count : set.count ≡ length (rising 128 s) = set.counted ∙ sym (length_rising 128 s) in record {
+      listed =
+          ap (λ (m : ℕ). take m marks) count
+          ∙ listed_all marks (to_come c.loop-mark.mark-iterator) (rising 128 s) c.loop-mark.filled (omega arith) c.in-None.ensures.steps.0 inv.4;
+    }

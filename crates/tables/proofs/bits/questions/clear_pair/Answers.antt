@@ -9,4 +9,4 @@ returns c =
     let j = c.args.j in
     let l : i < length rows = search rules in
     let m : j < length rows = search rules in
-    both_gone rows i j c.clear-bit.new.row c.clear-bit-2.new.row l m c.clear-bit.ensures c.clear-bit-2.ensures
+    both_gone rows i j c.clear_bit.new.row c.clear_bit-2.new.row l m c.clear_bit.ensures c.clear_bit-2.ensures

@@ -2,32 +2,28 @@ use Rattle.std.proofs.Common.{◌≡◌, ◌≤◌, length, arith, rules}
 use Rattle.tables.proofs.Places.{made_fits, made_each, made_rising, made_fresh, made_agrees}
 use Rattle.tables.proofs.pairs.PairTable.copy_of.Goals as goal
 
-pub invariant-of-result : goal.invariant-of-result
-invariant-of-result g c =
+pub invariant_of-result : goal.invariant_of-result
+invariant_of-result g c =
     let m = g.S.Sheet.meaning c.args.sheet.now in
-    let l = c.in-ok-list.list in
+    let l = c.in_ok-list.list in
     let n = c.marks.result in
     let e = c.marks.ensures in
-    let is = c.in-ok-list.ensures in
+    let is = c.in_ok-list.ensures in
     let long : length l.words ≡ 4096 = search rules in
-    let room : l.len ≤ length l.words = omega (arith, l.room) in (
-      omega (arith, m.few, e),
-      (
-        l.room,
-        (
-          made_each l.words l.len n m.marks m.agrees e m.few room is l.blank,
-          (made_rising l.words l.len n m.marks m.agrees e m.few room is l.blank, tt),
-        ),
-      ),
-    )
+    let room : l.len ≤ length l.words = omega (arith, l.room) in record {
+      few = omega (arith, m.few, e);
+      room = l.room;
+      each = made_each l.words l.len n m.marks m.agrees e m.few room is l.blank;
+      rising = made_rising l.words l.len n m.marks m.agrees e m.few room is l.blank;
+    }
 
 pub returns : goal.returns
 returns g c =
     let m = g.S.Sheet.meaning c.args.sheet.now in
-    let l = c.in-ok-list.list in
+    let l = c.in_ok-list.list in
     let n = c.marks.result in
     let e = c.marks.ensures in
-    let is = c.in-ok-list.ensures in
+    let is = c.in_ok-list.ensures in
     let long : length l.words ≡ 4096 = search rules in
     let room : l.len ≤ length l.words = omega (arith, l.room) in
     record {

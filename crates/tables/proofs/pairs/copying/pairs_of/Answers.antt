@@ -6,16 +6,16 @@ use Rattle.tables.proofs.pairs.copying.pairs_of.Goals as goal
 pub loop-i-init : goal.loop-i-init
 loop-i-init g c = c.empty-list.ensures ∙ sym (pairs_none c.marks-marks.result (g.S.Sheet.meaning c.args.sheet.now).agrees)
 
-pub returns-then-not-add-row : goal.returns-then-not-add-row
-returns-then-not-add-row g c =
+pub returns-then-not-add_row : goal.returns-then-not-add_row
+returns-then-not-add_row g c =
     let m = g.S.Sheet.meaning c.args.sheet.now in
-    pairs_too_long (listed c.loop-i.list) c.loop-i.i c.marks-marks.result m.agrees c.from-words.result.words c.row.result
-    c.loop-i.invariant c.from-words.ensures c.row.ensures m.marks c.marks-marks.ensures c.loop-i-test.true
-    (c.add-row.ensures.1 c.if-not-add-row.true)
+    pairs_too_long (listed c.loop-i.list) c.loop-i.i c.marks-marks.result m.agrees c.from_words.result.words c.row.result
+    c.loop-i.invariant c.from_words.ensures c.row.ensures m.marks c.marks-marks.ensures c.loop-i-test.true
+    (c.add_row.ensures.1 c.if-not-add_row.true)
 
 pub loop-i-preserved : goal.loop-i-preserved
 loop-i-preserved g c =
     let m = g.S.Sheet.meaning c.args.sheet.now in
-    pairs_step (listed c.loop-i.list) c.loop-i.i c.marks-marks.result m.agrees c.from-words.result.words c.row.result
-    c.loop-i.invariant c.from-words.ensures c.row.ensures (listed c.add-row.new.self)
-    (c.add-row.ensures.0 c.if-not-add-row.false)
+    pairs_step (listed c.loop-i.list) c.loop-i.i c.marks-marks.result m.agrees c.from_words.result.words c.row.result
+    c.loop-i.invariant c.from_words.ensures c.row.ensures (listed c.add_row.new.self)
+    (c.add_row.ensures.0 c.if-not-add_row.false)

@@ -31,7 +31,7 @@ loop-j-preserved c =
     let bit : (s ∖ below (i + 1)) j ≡ c.has.result = row_mark s i j c.loop-j.auto.j ∙ sym c.has.ensures.inside in
     elim c.else-has.branch [
       | else-has-via-then-has+else-not-push w ↦
-          (let word = w.word-of-pair.ensures ∙ ap₂ pair_word (omega (arith, c.requires)) (omega (arith, c.requires, c.loop-j-test.true)) in
+          (let word = w.word_of_pair.ensures ∙ ap₂ pair_word (omega (arith, c.requires)) (omega (arith, c.requires, c.loop-j-test.true)) in
           row_more (listed c.args.self.now) (listed c.loop-j.self) _ i j (s ∖ below (i + 1)) (bit ∙ w.if-has.true) c.loop-j.invariant
           (ap listed w.self-is ∙ w.push.ensures.0 w.if-not-push.false ∙ ap (λ v. listed c.loop-j.self ++ v ∷ []) word))
       | else-has-via-else-has w ↦

@@ -4,10 +4,10 @@ use Rattle.std.proofs.lemmas.Bool.{true≢false}
 use Rattle.tables.proofs.Places.{blank_pushed}
 use Rattle.tables.proofs.pairs.listing.PairList.push.Goals as goal
 
-pub invariant-of-self : goal.invariant-of-self
-invariant-of-self c =
+pub invariant_of-self : goal.invariant_of-self
+invariant_of-self c =
     let t = c.args.self.now in
-    (omega (arith, t.room), ((λ p. blank_pushed t.words t.len c.args.word p t.blank), tt))
+    record { room = omega (arith, t.room); blank = λ p. blank_pushed t.words t.len c.args.word p t.blank }
 
 pub returns : goal.returns
 returns c =

@@ -13,6 +13,6 @@ returns c =
     let part : t.len - 0 ≡ t.len = omega arith in
     let l : length t.words ≡ 4096 = search rules in
     let room : t.len ≤ length t.words = omega (arith, t.room) in
-    c.row-among.ensures ∙ ap₂ (λ n m. agree_by n (names (take m t.words)) c.args.i) few part
+    c.row_among.ensures ∙ ap₂ (λ n m. agree_by n (names (take m t.words)) c.args.i) few part
     ∙ agree_same t.marks (names (take t.len t.words)) (names t.words)
     (λ a b. among_front t.words t.len (pair_word a b) room (omega arith) (λ q h. stands_zero t.words t.len t.marks q (t.each q) h)) c.args.i
