@@ -12,7 +12,7 @@ returns g c =
     let b = c.args.limits.shared in
     let i = c.args.pair.a in
     let j = c.args.pair.b in
-    let e : bad a b m i j ≡ true = and_from (m.agrees i j) _ (sym c.agree.ensures ∙ c.if-not-agree.false) (sym c.is-offending.ensures ∙ c.if-not-is-offending.false) in
+    let e : bad a b m i j ≡ true = and_from (m.agrees i j) _ (sym c.agree.ensures ∙ c.if-not-agree.false) (sym c.is_offending.ensures ∙ c.if-not-is_offending.false) in
     record {
       looks = record {
         wears = wears_struck a b m m' i j c.strike.ensures.struck e;
@@ -21,5 +21,5 @@ returns g c =
       };
       lasts = c.strike.ensures.lasts;
       idle = λ f. absurd (true≢false f);
-      places = (c.note-mark-2.ensures ∙ c.note-mark.ensures, c.note-pairs.ensures);
+      places = (c.note_mark-2.ensures ∙ c.note_mark.ensures, c.note_pairs.ensures);
     }

@@ -7,7 +7,7 @@ loop-w-smaller g c =
     let low = c.in-Some.ensures in
     fewer_without c.loop-w.both c.without-both.result c.in-Some.w low.0 low.1 c.without-both.ensures
 
-pub loop-w-smaller-then-just-short-2 : goal.loop-w-smaller-then-just-short-2
-loop-w-smaller-then-just-short-2 g c =
+pub loop-w-smaller-then-just_short-2 : goal.loop-w-smaller-then-just_short-2
+loop-w-smaller-then-just_short-2 g c =
     let low = c.in-Some.ensures in
     fewer_without c.loop-w.both c.without-both.result c.in-Some.w low.0 low.1 c.without-both.ensures

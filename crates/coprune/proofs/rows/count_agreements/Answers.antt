@@ -10,8 +10,8 @@ use Rattle.coprune.proofs.rows.count_agreements.Goals as goal
 pub loop-i-init : goal.loop-i-init
 loop-i-init g c = (c.empty-seen.ensures ∙ seen_none, sym (sum_none _))
 
-pub overflow-add-count : goal.overflow-add-count
-overflow-add-count g c =
+pub overflow_add-count : goal.overflow_add-count
+overflow_add-count g c =
     let m = g.S.Sheet.meaning c.args.sheet.now in
     let f : ℕ → ℕ = λ i. card m.marks (m.agrees i ∖ below (i + 1)) in
     let few = sum_below c.loop-i.i 128 f (λ j. omega (arith, card_le m.marks (m.agrees j ∖ below (j + 1)), m.few)) in

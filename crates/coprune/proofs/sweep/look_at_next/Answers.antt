@@ -23,17 +23,17 @@ pub returns-in-Some : goal.returns-in-Some
 returns-in-Some g c =
     let mean = g.S.Sheet.meaning in
     let m = mean c.args.sheet.now in
-    let m' = mean c.look-among.new.sheet in
+    let m' = mean c.look_among.new.sheet in
     let p = c.args.marks.now in
     let q = c.args.pairs.now in
     let took = c.in-Some.ensures in
-    let said = c.look-among.ensures in
+    let said = c.look_among.ensures in
     let wears = said.looks.wears in
     record {
       wears = wears;
       lasts = said.lasts;
       over = λ e. absurd (true≢false e);
-      falls = λ _. falls m m' p c.look-among.new.marks q c.look-among.new.pairs c.look-among.result
+      falls = λ _. falls m m' p c.look_among.new.marks q c.look_among.new.pairs c.look_among.result
           (said.places.0 ∙ ap length took.1) said.places.1
           (wears_fewer c.args.limits.ends c.args.limits.shared m m' wears) said.looks.fewer
           (λ e.
@@ -47,18 +47,18 @@ pub returns-in-Some-pop : goal.returns-in-Some-pop
 returns-in-Some-pop g c =
     let mean = g.S.Sheet.meaning in
     let m = mean c.args.sheet.now in
-    let m' = mean c.look-at-pair.new.sheet in
+    let m' = mean c.look_at_pair.new.sheet in
     let p = c.args.marks.now in
     let q = c.args.pairs.now in
-    let none = c.in-default.ensures in
+    let none = c.in_default.ensures in
     let took = c.in-Some-pop.ensures in
-    let said = c.look-at-pair.ensures in
+    let said = c.look_at_pair.ensures in
     let wears = said.looks.wears in
     record {
       wears = wears;
       lasts = said.lasts;
       over = λ e. absurd (true≢false e);
-      falls = λ _. falls m m' p c.look-at-pair.new.marks q c.look-at-pair.new.pairs c.look-at-pair.result
+      falls = λ _. falls m m' p c.look_at_pair.new.marks q c.look_at_pair.new.pairs c.look_at_pair.result
           (said.places.0 ∙ ap (λ (t : Queue ℕ). length (held t)) none.1) (said.places.1 ∙ ap length took.1)
           (wears_fewer c.args.limits.ends c.args.limits.shared m m' wears) said.looks.fewer
           (λ e.

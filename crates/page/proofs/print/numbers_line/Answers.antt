@@ -12,10 +12,10 @@ returns c =
     let n = decimal c.args.n in
     let few = length-decimal-le 20 c.args.m (omega arith) (omega arith) (omega arith) in
     let few' = length-decimal-le 20 c.args.n (omega arith) (omega arith) (omega arith) in
-    let one = pushed 512 [] a c.new-page.ensures c.push-bytes.ensures in
-    let two = pushed 512 a m one c.push-number.ensures in
-    let three = pushed 512 (a ++ m) b two c.push-bytes-2.ensures in
-    let four = pushed 512 (a ++ m ++ b) n three c.push-number-2.ensures in
-    let five = pushed 512 (a ++ m ++ b ++ n) (10 ∷ []) four c.push-bytes-3.ensures in
+    let one = pushed 512 [] a c.new-page.ensures c.push_bytes.ensures in
+    let two = pushed 512 a m one c.push_number.ensures in
+    let three = pushed 512 (a ++ m) b two c.push_bytes-2.ensures in
+    let four = pushed 512 (a ++ m ++ b) n three c.push_number-2.ensures in
+    let five = pushed 512 (a ++ m ++ b ++ n) (10 ∷ []) four c.push_bytes-3.ensures in
     let short : length (a ++ m ++ b ++ n ++ 10 ∷ []) ≤ 512 = simp length-append (omega (arith, c.requires.0, c.requires.1)) in
     five ∙ take_all 512 _ short ∙ simp append_assoc

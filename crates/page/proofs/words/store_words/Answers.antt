@@ -10,7 +10,7 @@ loop-i-preserved c =
     let i = c.loop-i.i in
     let l : i < length c.loop-i.words = omega (arith, c.requires.0) in
     let h : 4 * i + 3 < length c.args.bytes.now = omega arith in
-    stored_more c.args.bytes.now c.loop-i.words i c.word-of.result l h c.loop-i.invariant c.word-of.ensures
+    stored_more c.args.bytes.now c.loop-i.words i c.word_of.result l h c.loop-i.invariant c.word_of.ensures
 
 pub returns : goal.returns
 returns c =

@@ -28,8 +28,8 @@ returns-then-count-k c =
     let missed : c.count.result ≡ misses 128 a s u = c.count.ensures ∙ ap (card 128) (c.minus.ensures ∙ ap (λ t. s ∖ t) c.neighbours-row.ensures.set) in
     no_plex c.args.k a s u (c.loop-u.invariant.0 u c.in-Some.ensures.1) (omega (arith, c.if-count-k.true))
 
-pub overflow-add-k : goal.overflow-add-k
-overflow-add-k c = omega (arith, c.requires, c.count-in-Some.ensures, card_le 128 (members c.and.result))
+pub overflow_add-k : goal.overflow_add-k
+overflow_add-k c = omega (arith, c.requires, c.count-in-Some.ensures, card_le 128 (members c.and.result))
 
 pub loop-u-smaller : goal.loop-u-smaller
 loop-u-smaller c =
@@ -62,7 +62,7 @@ returns c =
     let k = c.args.k in
     let s = members c.args.chosen in
     let rest = members c.loop-u.rest in
-    let over = c.in-default.ensures in
+    let over = c.in_default.ensures in
     let inv = c.loop-u.invariant in (
       plex_by_misses k a s (passed_all (MissesFew k a s) s rest over inv.1),
       subst (λ all. Lowered s (number_in k a all) nothing_yet c.loop-u.smallest) c.or-all.ensures

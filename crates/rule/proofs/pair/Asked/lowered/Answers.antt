@@ -17,8 +17,8 @@ small q u room e l = (omega (arith, ap (λ r. r.spare) e, l), omega (arith, ap (
 pub bounds-rooms-u : goal.bounds-rooms-u
 bounds-rooms-u c = c.requires.1.0
 
-pub at-least-requires : goal.at-least-requires
-at-least-requires c =
+pub at_least-requires : goal.at_least-requires
+at_least-requires c =
     let q = c.args.self in
     let rooms = c.args.rooms.now in
     let roomy = c.requires.1.1.1.1 in
@@ -31,8 +31,8 @@ at-least-requires c =
       (two.0, (one.1, two.1)),
     )
 
-pub overflow-add-count : goal.overflow-add-count
-overflow-add-count c =
+pub overflow_add-count : goal.overflow_add-count
+overflow_add-count c =
     let q = c.args.self in
     let roomy = c.requires.1.1.1.1 in
     let v = c.in-Some.v in
@@ -42,7 +42,7 @@ overflow-add-count c =
     let two = small q v (get_or c.args.rooms.now v no_room) there c.requires.0 in
     omega (
       arith,
-      c.at-least.ensures,
+      c.at_least.ensures,
       c.count.ensures,
       card_le 128 (members q.chosen),
       one.0,
@@ -51,8 +51,8 @@ overflow-add-count c =
       two.1,
     )
 
-pub overflow-add-count-then-count-at-least-3 : goal.overflow-add-count-then-count-at-least-3
-overflow-add-count-then-count-at-least-3 c =
+pub overflow_add-count-then-count-at_least-3 : goal.overflow_add-count-then-count-at_least-3
+overflow_add-count-then-count-at_least-3 c =
     let q = c.args.self in
     let roomy = c.requires.1.1.1.1 in
     let v = c.in-Some.v in
@@ -62,7 +62,7 @@ overflow-add-count-then-count-at-least-3 c =
     let two = small q v (get_or c.args.rooms.now v no_room) there c.requires.0 in
     omega (
       arith,
-      c.count-then-count-at-least.ensures,
+      c.count-then-count-at_least.ensures,
       c.count-both.ensures,
       card_le 128 (members q.chosen),
       card_le 128 (members c.and.result),
@@ -70,13 +70,13 @@ overflow-add-count-then-count-at-least-3 c =
       two.0,
     )
 
-pub loop-v-smaller-then-count-at-least : goal.loop-v-smaller-then-count-at-least
-loop-v-smaller-then-count-at-least c =
+pub loop-v-smaller-then-count-at_least : goal.loop-v-smaller-then-count-at_least
+loop-v-smaller-then-count-at_least c =
     let low = c.in-Some.ensures in
     fewer_without c.loop-v.rest c.without-rest.result c.in-Some.v low.0 low.1 c.without-rest.ensures
 
-pub loop-v-preserved-then-count-at-least : goal.loop-v-preserved-then-count-at-least
-loop-v-preserved-then-count-at-least c =
+pub loop-v-preserved-then-count-at_least : goal.loop-v-preserved-then-count-at_least
+loop-v-preserved-then-count-at_least c =
     let q = c.args.self in
     let roomy = c.requires.1.1.1.1 in
     let u = c.args.u in
@@ -87,9 +87,9 @@ loop-v-preserved-then-count-at-least c =
     let there = ap (λ r. r.spare) (roomy v (c.requires.1.1.1.0 v partner)) in
     let near = c.and-near.ensures ∙ ap (λ t. members q.others ∩ t) c.neighbours.ensures.set in
     let both : c.count-both.result ≡ card 128 (members q.others ∩ agreed q u ∩ agreed q v) =
-    c.count-both.ensures ∙ ap (card 128) (c.and.ensures ∙ ap₂ ◌∩◌ near c.neighbours-then-count-at-least.ensures.set) in
+    c.count-both.ensures ∙ ap (card 128) (c.and.ensures ∙ ap₂ ◌∩◌ near c.neighbours-then-count-at_least.ensures.set) in
     let number : c.min-smallest.result ≡ min c.loop-v.smallest (number_of_two q u v) =
-    omega (arith, c.min-smallest.ensures, c.count-then-count-at-least.ensures, here, there, both) in (
+    omega (arith, c.min-smallest.ensures, c.count-then-count-at_least.ensures, here, there, both) in (
       left_part (members c.args.partners) (members c.loop-v.rest) (members c.without-rest.result) v c.without-rest.ensures inv.0,
       lowest_more (members c.args.partners) (members c.loop-v.rest) (members c.without-rest.result) (number_of_two q u) c.args.start c.loop-v.smallest v
           c.min-smallest.result partner c.without-rest.ensures number inv.1,
@@ -113,8 +113,8 @@ loop-v-preserved c =
     let number : c.loop-v.smallest ≡ min c.loop-v.smallest (number_of_two q u v) =
     omega (
       arith,
-      c.if-count-at-least.false,
-      c.at-least.ensures,
+      c.if-count-at_least.false,
+      c.at_least.ensures,
       c.count.ensures,
       c.count-in-Some.ensures,
       ap (λ r. r.spare) here,
@@ -131,4 +131,4 @@ loop-v-preserved c =
 pub returns : goal.returns
 returns c =
     let q = c.args.self in
-    lowest_all (members c.args.partners) (members c.loop-v.rest) (number_of_two q c.args.u) c.args.start c.loop-v.smallest c.in-default.ensures c.loop-v.invariant.1
+    lowest_all (members c.args.partners) (members c.loop-v.rest) (number_of_two q c.args.u) c.args.start c.loop-v.smallest c.in_default.ensures c.loop-v.invariant.1

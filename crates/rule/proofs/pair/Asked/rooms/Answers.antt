@@ -61,7 +61,7 @@ returns c =
     let q = c.args.self in
     let s = members q.chosen in
     let rest = members c.loop-u.rest in
-    let over = c.in-default.ensures in
+    let over = c.in_default.ensures in
     let inv = c.loop-u.invariant in (
       plex_by_misses q.k (agreed q) s (passed_all (MissesFew q.k (agreed q) s) s rest over inv.2),
       passed_all (λ u. get_or c.loop-u.rooms u no_room ≡ room_of q u) s rest over inv.3,

@@ -38,5 +38,5 @@ pub returns : goal.returns
 returns c =
     let q = c.args.self in
     let s = members q.chosen in
-    two_all s (members c.loop-u.rest) (number_of_two q) nothing_yet c.loop-u.smallest c.in-default.ensures c.requires.1.0
+    two_all s (members c.loop-u.rest) (number_of_two q) nothing_yet c.loop-u.smallest c.in_default.ensures c.requires.1.0
     (λ u v. omega (arith, c.requires.0, card_le 128 s, card_le 128 (members q.others ∩ agreed q u ∩ agreed q v))) c.loop-u.invariant.1
