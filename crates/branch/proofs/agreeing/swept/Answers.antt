@@ -52,4 +52,4 @@ loop-v-preserved c =
 pub returns : goal.returns
 returns c =
     sweeping_all c.args.few (bit_meaning c.args.table.now).agrees (members c.args.chosen) (members c.args.candidates) (members c.loop-v.rest)
-    (members c.loop-v.fitting) c.in-default.ensures c.loop-v.invariant.1
+    (members c.loop-v.fitting) c.in_default.ensures c.loop-v.invariant.1

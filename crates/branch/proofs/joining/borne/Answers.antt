@@ -70,4 +70,4 @@ loop-u-preserved c =
 pub returns : goal.returns
 returns c =
     bearing_all c.args.k (bit_meaning c.args.table.now).agrees (members c.args.chosen) (members c.args.candidates) (members c.loop-u.rest)
-    (members c.loop-u.fitting) c.in-default.ensures c.loop-u.invariant.1
+    (members c.loop-u.fitting) c.in_default.ensures c.loop-u.invariant.1

@@ -17,7 +17,7 @@ returns c =
     let p : length c.args.chosen.words ≡ 4 = search rules in
     let q : length c.args.candidates.words ≡ 4 = search rules in
     let mark = holds_within c.args.candidates.words q in
-    sifted_both (Borne k m.agrees s) (MissesUnder k m.agrees s) (λ v. Kplex 128 k m.agrees (s ∪ only v)) d (members c.borne.result) (members c.missing-few.result)
-    c.borne.ensures c.missing-few.ensures
+    sifted_both (Borne k m.agrees s) (MissesUnder k m.agrees s) (λ v. Kplex 128 k m.agrees (s ∪ only v)) d (members c.borne.result) (members c.missing_few.result)
+    c.borne.ensures c.missing_few.ensures
     (λ v t. plex_from_tests k m.agrees s v (mark v t) (holds_within c.args.chosen.words p))
     (λ v t x. (plex_bears k m.agrees s v (mark v t) x, plex_misses_under k m.agrees s v (mark v t) m.irreflexive x))

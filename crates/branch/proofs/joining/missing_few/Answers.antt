@@ -72,4 +72,4 @@ loop-v-preserved c =
 pub returns : goal.returns
 returns c =
     sifting_all (MissesUnder c.args.k (bit_meaning c.args.table.now).agrees (members c.args.chosen)) (members c.args.marks) (members c.loop-v.rest)
-    (members c.loop-v.fitting) c.in-default.ensures c.loop-v.invariant.1
+    (members c.loop-v.fitting) c.in_default.ensures c.loop-v.invariant.1

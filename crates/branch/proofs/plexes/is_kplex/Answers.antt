@@ -50,5 +50,5 @@ returns c =
     let a = (bit_meaning c.args.table.now).agrees in
     let k = c.args.k in
     let s = members c.args.set in
-    let each = passed_all (MissesFew k a s) s (members c.loop-u.rest) c.in-default.ensures c.loop-u.invariant.1 in
+    let each = passed_all (MissesFew k a s) s (members c.loop-u.rest) c.in_default.ensures c.loop-u.invariant.1 in
     sym ((kplex_decides 128 k a s (λ u t. (each u t).0)).1 (plex_by_misses k a s each))

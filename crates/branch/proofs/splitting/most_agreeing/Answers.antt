@@ -18,8 +18,8 @@ put_back : (p rest : Set) (u : ℕ) → p u ≡ true → rest ≡ p ∖ only u �
 put_back p rest u t e = fun_ext (λ i.
     ap (λ x. x || only u i) (ap (λ r. r i) e) ∙ elim (cases_eq i u) [ inl m ↦ (let y = ap p m ∙ t in grind (arith, nat_tests)) | inr m ↦ grind (arith, nat_tests) ])
 
-pub returns-in-default : goal.returns-in-default
-returns-in-default c = λ i l. ap (λ s. s i) c.in-default.ensures
+pub returns-in_default : goal.returns-in_default
+returns-in_default c = λ i l. ap (λ s. s i) c.in_default.ensures
 
 pub loop-v-init : goal.loop-v-init
 loop-v-init c =
@@ -81,4 +81,4 @@ returns c =
     let u = c.in-Some.first in
     let same = put_back p rest u c.in-Some.ensures.1 c.without-rest.ensures in
     subst (λ q. Least 128 q (short_of_all a all) (Some c.loop-v.best)) same
-    (best_all (rest ∪ only u) (agreements_in a all) (members c.loop-v.rest) c.loop-v.best (λ i. card_le 128 (all ∩ a i)) c.in-default-lowest.ensures c.loop-v.invariant.1)
+    (best_all (rest ∪ only u) (agreements_in a all) (members c.loop-v.rest) c.loop-v.best (λ i. card_le 128 (all ∩ a i)) c.in_default-lowest.ensures c.loop-v.invariant.1)

@@ -17,8 +17,8 @@ loop-v-init c =
     let P = Tight c.args.k (bit_meaning c.args.table.now).agrees (members c.args.chosen) in
     sifting_none P d d (passed_none P d)
 
-pub overflow-add-count : goal.overflow-add-count
-overflow-add-count c = omega (arith, c.count.ensures, card_le 128 (members c.minus.result))
+pub overflow_add-count : goal.overflow_add-count
+overflow_add-count c = omega (arith, c.count.ensures, card_le 128 (members c.minus.result))
 
 pub loop-v-smaller-then-count-k : goal.loop-v-smaller-then-count-k
 loop-v-smaller-then-count-k c =
@@ -54,4 +54,4 @@ returns c =
     let s = members c.args.chosen in
     let d = members c.args.candidates in
     tight_sifted c.args.k a s d (members c.loop-v.tight)
-    (sifting_all (Tight c.args.k a s) d (members c.loop-v.rest) (members c.loop-v.tight) c.in-default.ensures c.loop-v.invariant)
+    (sifting_all (Tight c.args.k a s) d (members c.loop-v.rest) (members c.loop-v.tight) c.in_default.ensures c.loop-v.invariant)

@@ -34,4 +34,4 @@ pub returns : goal.returns
 returns c =
     let a = (bit_meaning c.args.table.now).agrees in
     let s = members c.args.set in
-    passed_all (λ u. degree c.loop-u.degrees u ≡ card 128 (s ∩ a u)) s (members c.loop-u.rest) c.in-default.ensures c.loop-u.invariant.2
+    passed_all (λ u. degree c.loop-u.degrees u ≡ card 128 (s ∩ a u)) s (members c.loop-u.rest) c.in_default.ensures c.loop-u.invariant.2

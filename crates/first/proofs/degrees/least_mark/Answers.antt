@@ -7,22 +7,22 @@ use Rattle.first.specs.Degrees.{degree}
 use Rattle.first.proofs.Choosing.{least_none, least_kept, least_taken, least_all}
 use Rattle.first.proofs.degrees.least_mark.Goals as goal
 
-pub returns-in-err-least : goal.returns-in-err-least
-returns-in-err-least c =
+pub returns-in_err-least : goal.returns-in_err-least
+returns-in_err-least c =
     let s = members c.args.set in
-    let none_left = c.in-err-least.ensures in
-    subst (Least 128 s (degree c.args.degrees.now)) (sym c.from-residual.ensures) (λ i _. ap (λ q. q i) none_left)
+    let none_left = c.in_err-least.ensures in
+    subst (Least 128 s (degree c.args.degrees.now)) (sym c.from_residual.ensures) (λ i _. ap (λ q. q i) none_left)
 
 pub loop-v-init : goal.loop-v-init
 loop-v-init c =
-    let low = c.in-ok-least.ensures in
-    ((λ i t. t), least_none (members c.args.set) (degree c.args.degrees.now) c.in-ok-least.least low.0 low.1 low.2)
+    let low = c.in_ok-least.ensures in
+    ((λ i t. t), least_none (members c.args.set) (degree c.args.degrees.now) c.in_ok-least.least low.0 low.1 low.2)
 
-pub overflow-cast-least : goal.overflow-cast-least
-overflow-cast-least c = omega (arith, c.loop-v.invariant.1.small)
+pub overflow_cast-least : goal.overflow_cast-least
+overflow_cast-least c = omega (arith, c.loop-v.invariant.1.small)
 
-pub offset-bounds-degrees-least : goal.offset-bounds-degrees-least
-offset-bounds-degrees-least c = omega (arith, c.loop-v.invariant.1.small)
+pub offset_bounds-degrees-least : goal.offset_bounds-degrees-least
+offset_bounds-degrees-least c = omega (arith, c.loop-v.invariant.1.small)
 
 pub bounds-degrees-least : goal.bounds-degrees-least
 bounds-degrees-least c = c.loop-v.invariant.1.small
@@ -64,4 +64,4 @@ loop-v-preserved c =
 
 pub returns : goal.returns
 returns c =
-    least_all (members c.args.set) (members c.loop-v.rest) (degree c.args.degrees.now) c.loop-v.least c.in-default.ensures c.loop-v.invariant.1
+    least_all (members c.args.set) (members c.loop-v.rest) (degree c.args.degrees.now) c.loop-v.least c.in_default.ensures c.loop-v.invariant.1

@@ -10,8 +10,8 @@ use Rattle.first.proofs.degrees.lower.Goals as goal
 pub loop-v-init : goal.loop-v-init
 loop-v-init c = ((λ i t. t), search rules, lowered_none c.args.degrees.now (members c.args.marks))
 
-pub overflow-sub-degrees : goal.overflow-sub-degrees
-overflow-sub-degrees c =
+pub overflow_sub-degrees : goal.overflow_sub-degrees
+overflow_sub-degrees c =
     let low = c.in-Some.ensures in
     let v = c.in-Some.v in
     let inv = c.loop-v.invariant in
@@ -39,4 +39,4 @@ loop-v-preserved c =
 
 pub returns : goal.returns
 returns c =
-    lowered_all c.args.degrees.now c.loop-v.degrees (members c.args.marks) (members c.loop-v.rest) c.in-default.ensures c.loop-v.invariant.2
+    lowered_all c.args.degrees.now c.loop-v.degrees (members c.args.marks) (members c.loop-v.rest) c.in_default.ensures c.loop-v.invariant.2

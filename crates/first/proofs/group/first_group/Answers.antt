@@ -13,11 +13,11 @@ use Rattle.first.proofs.group.first_group.Goals as goal
 pub loop-u-init : goal.loop-u-init
 loop-u-init c =
     let m = bit_meaning c.args.table.now in
-    let all = c.all-marks-group.ensures in (
+    let all = c.all_marks-group.ensures in (
       (λ i t. ltb-true i m.marks (sym (ap (λ s. s i) all) ∙ t)),
       search rules,
-      c.degrees-in-degrees.ensures,
-      onward_start m.marks c.args.k m.agrees (members c.all-marks-group.result) all,
+      c.degrees_in-degrees.ensures,
+      onward_start m.marks c.args.k m.agrees (members c.all_marks-group.result) all,
     )
 
 pub returns-then-most-count : goal.returns-then-most-count
@@ -29,7 +29,7 @@ returns-then-most-count c =
     let u = c.in-Some.u in
     let inv = c.loop-u.invariant in
     let most : c.min-most.result ≡ min (degree xs u + k) (card 128 r) =
-    not_cut (degree xs u) k (card 128 r) c.saturating-add.result c.min-most.result c.saturating-add.ensures (c.min-most.ensures ∙ ap (min c.saturating-add.result) c.count.ensures) (card_le 128 r) in
+    not_cut (degree xs u) k (card 128 r) c.saturating_add.result c.min-most.result c.saturating_add.ensures (c.min-most.ensures ∙ ap (min c.saturating_add.result) c.count.ensures) (card_le 128 r) in
     onward_stays m.marks k m.agrees m.few r inv.0 xs inv.2 c.loop-u.top inv.3 u c.in-Some.ensures c.max-top.result
     (c.max-top.ensures ∙ ap (max c.loop-u.top) most) (omega (arith, c.if-most-count.true, c.count-in-Some.ensures))
 
@@ -58,7 +58,7 @@ loop-u-preserved c =
     let l = c.in-Some.ensures in
     let gone : r' ≡ r ∖ only u = c.without-group.ensures in
     let most : c.min-most.result ≡ min (degree xs u + k) (card 128 r) =
-    not_cut (degree xs u) k (card 128 r) c.saturating-add.result c.min-most.result c.saturating-add.ensures (c.min-most.ensures ∙ ap (min c.saturating-add.result) c.count.ensures) (card_le 128 r) in (
+    not_cut (degree xs u) k (card 128 r) c.saturating_add.result c.min-most.result c.saturating_add.ensures (c.min-most.ensures ∙ ap (min c.saturating_add.result) c.count.ensures) (card_le 128 r) in (
       (λ i t. inv.0 i (left_part r r r' u gone (λ j y. y) i t)),
       search rules,
       degrees_after m.agrees m.symmetric r u l.0 l.1 xs c.lower.new.degrees r' (members c.and.result) gone
@@ -72,4 +72,4 @@ returns c =
     let m = bit_meaning c.args.table.now in
     let inv = c.loop-u.invariant in
     onward_empty m.marks c.args.k m.agrees m.few (members c.loop-u.group) inv.0 c.loop-u.degrees inv.2 c.loop-u.top inv.3
-    c.in-default.ensures
+    c.in_default.ensures

@@ -12,14 +12,14 @@ returns c =
     let a = (bit_meaning c.args.table.now).agrees in
     let k = c.args.k in
     let h = c.args.held in
-    let s = members c.from-words-chosen.result in
-    let d = members c.from-words-candidates.result in
+    let s = members c.from_words-chosen.result in
+    let d = members c.from_words-candidates.result in
     let joined = members c.joinable-fitting.result in
     let left : Trimmed 128 k a h s d (members c.if-k-held.fitting) =
     elim c.if-k-held.branch [
       | then-k-held w ↦
           subst (λ e. Trimmed 128 k a h s d e) (sym (ap members w.fitting-is))
-          (trimmed_by_both k a h s d joined c.joinable-fitting.ensures (members w.agreeing-enough-fitting.result) (omega (arith, w.if-k-held.true)) w.agreeing-enough-fitting.ensures)
+          (trimmed_by_both k a h s d joined c.joinable-fitting.ensures (members w.agreeing_enough-fitting.result) (omega (arith, w.if-k-held.true)) w.agreeing_enough-fitting.ensures)
       | else-k-held w ↦
           subst (λ e. Trimmed 128 k a h s d e) (sym (ap members w.fitting-is))
           (trimmed_by_joining k a h s d joined c.joinable-fitting.ensures (omega (arith, w.if-k-held.false)))
@@ -27,7 +27,7 @@ returns c =
     record {
       chosen = refl;
       trimmed =
-          subst (λ t. Trimmed 128 k a h t (holds c.args.self.now.candidates) (holds c.words-self.result)) (ap holds c.from-words-chosen.ensures)
-          (subst (λ t. Trimmed 128 k a h s t (holds c.words-self.result)) (ap holds c.from-words-candidates.ensures)
+          subst (λ t. Trimmed 128 k a h t (holds c.args.self.now.candidates) (holds c.words-self.result)) (ap holds c.from_words-chosen.ensures)
+          (subst (λ t. Trimmed 128 k a h s t (holds c.words-self.result)) (ap holds c.from_words-candidates.ensures)
           (subst (λ t. Trimmed 128 k a h s d t) (sym (ap holds c.words-self.ensures)) left));
     }
