@@ -10,13 +10,13 @@ returns-then-self-gt0 g c =
     let s = c.args.self.now in
     ((not_closed s.branches s.count c.if-self-gt0.true, refl {a = c.args.places.now}), refl)
 
-pub returns-then-not-copy-into : goal.returns-then-not-copy-into
-returns-then-not-copy-into g c =
+pub returns-then-not-copy_into : goal.returns-then-not-copy_into
+returns-then-not-copy_into g c =
     let s = c.args.self.now in
     let h = held_set s.held in
     let p = c.args.places.now in
-    let short : length p < card 128 h = leb-false (card 128 h) (length p) (sym c.copy-into.ensures.said ∙ c.if-not-copy-into.true) in
-    (((closed s.branches s.count c.if-self-gt0.false, omega (arith, held_count s)), c.copy-into.ensures.refused c.if-not-copy-into.true), refl)
+    let short : length p < card 128 h = leb-false (card 128 h) (length p) (sym c.copy_into.ensures.said ∙ c.if-not-copy_into.true) in
+    (((closed s.branches s.count c.if-self-gt0.false, omega (arith, held_count s)), c.copy_into.ensures.refused c.if-not-copy_into.true), refl)
 
 pub returns : goal.returns
 returns g c =
@@ -24,8 +24,8 @@ returns g c =
     let n = s.sheet.marks in
     let h = held_set s.held in
     let p = c.args.places.now in
-    let room : card 128 h ≤ length p = leb-true (card 128 h) (length p) (sym c.copy-into.ensures.said ∙ c.if-not-copy-into.false) in
-    let written : c.copy-into.new.places ≡ rising 128 h ++ drop (card 128 h) p = c.copy-into.ensures.copied c.if-not-copy-into.false in (
+    let room : card 128 h ≤ length p = leb-true (card 128 h) (length p) (sym c.copy_into.ensures.said ∙ c.if-not-copy_into.false) in
+    let written : c.copy_into.new.places ≡ rising 128 h ++ drop (card 128 h) p = c.copy_into.ensures.copied c.if-not-copy_into.false in (
       record {
         done = closed s.branches s.count c.if-self-gt0.false;
         room = omega (arith, held_count s);

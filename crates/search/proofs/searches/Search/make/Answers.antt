@@ -5,13 +5,13 @@ use Rattle.search.specs.Starting.{state_of}
 use Rattle.search.proofs.Tests.{starts_chosens, starts_candidates, starts_apart, starts_plex, starts_ordered, starts_inside}
 use Rattle.search.proofs.searches.Search.make.Goals as goal
 
-pub invariant-of-result : goal.invariant-of-result
-invariant-of-result g c =
+pub invariant_of-result : goal.invariant_of-result
+invariant_of-result g c =
     let m = g.S.Sheet.meaning c.args.sheet.now in
     let k = c.args.k in
     let rule = g.R.CeilingRule.number c.args.rule in
-    let s = c.first-state-start.result in
-    let w = c.first-state-start.ensures.made in
+    let s = c.first_state-start.result in
+    let w = c.first_state-start.ensures.made in
     (w.alike, (starts_chosens m k rule s w, (starts_candidates m k rule s w, (starts_apart m k rule s w, (starts_plex m k rule s w, (starts_ordered m k rule s w, (starts_inside m k rule s w, tt)))))))
 
 pub returns : goal.returns
@@ -20,8 +20,8 @@ returns g c =
     let k = c.args.k in
     let number = g.R.CeilingRule.number in
     let rule = number c.args.rule in
-    let s = c.first-state-start.result in
-    let w = c.first-state-start.ensures.made in
+    let s = c.first_state-start.result in
+    let w = c.first_state-start.ensures.made in
     let low : 1 ≤ k = omega (arith, c.if-k-eq0.false) in
     let high : k ≤ 16 = omega (arith, c.if-k-gt16.false) in
     let law = the_law m k rule low high (g.met.R.CeilingRule.lawful c.args.rule) (state_of rule k s) (w.made rule) in
@@ -29,11 +29,11 @@ returns g c =
       makes = record {
         low = low;
         high = high;
-        marks = omega (arith, c.marks.ensures, c.if-mark-space-marks.false);
-        pairs = omega (arith, c.pair-places.ensures, c.if-pair-space-pair-places.false);
+        marks = omega (arith, c.marks.ensures, c.if-mark_space-marks.false);
+        pairs = omega (arith, c.pair_places.ensures, c.if-pair_space-pair_places.false);
         rule_kept = refl;
         made = w.made rule;
         law = law_meant (view number) m.marks k m.agrees (2 ^ (m.marks + 1) - 1) _ law;
       };
-      spaces = ((λ l. c.first-state-start.ensures.idle (w.closed rule l)), (λ _. (tt, tt)));
+      spaces = ((λ l. c.first_state-start.ensures.idle (w.closed rule l)), (λ _. (tt, tt)));
     }

@@ -10,12 +10,12 @@ use Rattle.search.proofs.View.{formed}
 use Rattle.search.proofs.Stacks.{plex_from, inside_from}
 use Rattle.search.proofs.searches.Search.offer.Goals as goal
 
-pub invariant-of-self : goal.invariant-of-self
-invariant-of-self g c =
+pub invariant_of-self : goal.invariant_of-self
+invariant_of-self g c =
     let me = c.args.self.now in
     let s = view g.R.CeilingRule.number me in
     let list = c.args.marks.now in
-    let judged = c.in-ok-group.ensures in
+    let judged = c.in_ok-group.ensures in
     let words = c.of-self.result.set.words in
     let same : holds words ≡ among list = ap members c.of-self.ensures ∙ judged.1 in
     let larger : held_size s < card me.sheet.marks (holds words) = omega (arith, judged.0.larger, ap (card me.sheet.marks) same) in

@@ -9,8 +9,8 @@ use Rattle.search.proofs.searches.Search.report.Goals as goal
 pub bounds-self-at : goal.bounds-self-at
 bounds-self-at g c = omega (arith, few_open c.args.self.now, c.loop-at-test.true)
 
-pub offset-bounds-self-at : goal.offset-bounds-self-at
-offset-bounds-self-at g c = omega (arith, few_open c.args.self.now, c.loop-at-test.true)
+pub offset_bounds-self-at : goal.offset_bounds-self-at
+offset_bounds-self-at g c = omega (arith, few_open c.args.self.now, c.loop-at-test.true)
 
 pub loop-at-preserved : goal.loop-at-preserved
 loop-at-preserved g c =
@@ -18,10 +18,10 @@ loop-at-preserved g c =
     let n = s.sheet.marks in
     let at = c.loop-at.at in
     let stands = c.loop-at-test.true in
-    let wide : c.width-of.result ≡ card 128 (chosen_at s.branches at) + card 128 (candidates_at s.branches at) = c.width-of.ensures in
-    let wide' : c.width-of.result ≡ card n (chosen_at s.branches at) + card n (candidates_at s.branches at) =
+    let wide : c.width_of.result ≡ card 128 (chosen_at s.branches at) + card 128 (candidates_at s.branches at) = c.width_of.ensures in
+    let wide' : c.width_of.result ≡ card n (chosen_at s.branches at) + card n (candidates_at s.branches at) =
     wide ∙ ap₂ ◌+◌ (chosen_count s at stands) (candidates_count s at stands) in
-    widest_more n s.branches at c.count-size.result c.loop-at.most c.width-of.result c.max-most.result c.loop-at.invariant wide' c.max-most.ensures
+    widest_more n s.branches at c.count-size.result c.loop-at.most c.width_of.result c.max-most.result c.loop-at.invariant wide' c.max-most.ensures
 
 pub returns : goal.returns
 returns g c =

@@ -11,20 +11,20 @@ use Rattle.search.proofs.Stepping.{passes}
 use Rattle.search.proofs.Steps.{read, step_closes, group_within, step_takes, mark_small, room, step_splits}
 use Rattle.search.proofs.searches.Search.take_step.Goals as goal
 
-pub offset-bounds-self-at : goal.offset-bounds-self-at
-offset-bounds-self-at g c = omega (arith, few_open c.args.self.now, c.requires)
+pub offset_bounds-self-at : goal.offset_bounds-self-at
+offset_bounds-self-at g c = omega (arith, few_open c.args.self.now, c.requires)
 
 pub bounds-self-at : goal.bounds-self-at
 bounds-self-at g c = omega (arith, few_open c.args.self.now, c.requires)
 
-pub offset-bounds-self-at-2 : goal.offset-bounds-self-at-2
-offset-bounds-self-at-2 g c = omega (arith, few_open c.args.self.now, c.requires)
+pub offset_bounds-self-at-2 : goal.offset_bounds-self-at-2
+offset_bounds-self-at-2 g c = omega (arith, few_open c.args.self.now, c.requires)
 
 pub bounds-self-at-2 : goal.bounds-self-at-2
 bounds-self-at-2 g c = omega (arith, few_open c.args.self.now, c.requires)
 
-pub invariant-of-self : goal.invariant-of-self
-invariant-of-self g c =
+pub invariant_of-self : goal.invariant_of-self
+invariant_of-self g c =
     let me = c.args.self.now in
     let number = g.R.CeilingRule.number in
     let long : length me.branches ≡ 129 = search rules in
@@ -34,12 +34,12 @@ invariant-of-self g c =
     let trim = c.trim.new.self in
     let same = c.trim.ensures.chosen in
     let trimmed = c.trim.ensures.trimmed in
-    let step = step_closes number me c.requires long few h size trim same trimmed c.in-Closes.ensures c.saturating-add-self.result c.saturating-add-self.ensures in
-    let p = passes (view number me) (formed number me) (set me.branches (me.count - 1) trim) (me.count - 1) me.table.rows me.held.set.words c.saturating-add-self.result refl step (held_within me) in
+    let step = step_closes number me c.requires long few h size trim same trimmed c.in-Closes.ensures c.saturating_add-self.result c.saturating_add-self.ensures in
+    let p = passes (view number me) (formed number me) (set me.branches (me.count - 1) trim) (me.count - 1) me.table.rows me.held.set.words c.saturating_add-self.result refl step (held_within me) in
     (me.alike, (p.chosens, (p.candidates, (p.apart, (p.plex, (p.ordered, (p.inside, tt)))))))
 
-pub invariant-of-self-in-Takes : goal.invariant-of-self-in-Takes
-invariant-of-self-in-Takes g c =
+pub invariant_of-self-in-Takes : goal.invariant_of-self-in-Takes
+invariant_of-self-in-Takes g c =
     let me = c.args.self.now in
     let number = g.R.CeilingRule.number in
     let long : length me.branches ≡ 129 = search rules in
@@ -52,21 +52,21 @@ invariant-of-self-in-Takes g c =
     let group = c.of-self.result.set.words in
     let all : holds group ≡ chosen_at me.branches (me.count - 1) ∪ holds trim.candidates =
     ap members c.of-self.ensures ∙ c.or.ensures
-    ∙ ap₂ ◌∪◌ (ap holds (c.from-words-chosen.ensures ∙ ap (λ b. b.chosen) (read number me c.requires long few h size trim same trimmed) ∙ same))
-    (ap holds (c.from-words.ensures ∙ ap (λ b. b.candidates) (read number me c.requires long few h size trim same trimmed))) in
-    let step = step_takes number me c.requires long few h size trim same trimmed c.in-Takes.ensures group all c.saturating-add-self.result c.saturating-add-self.ensures in
+    ∙ ap₂ ◌∪◌ (ap holds (c.from_words-chosen.ensures ∙ ap (λ b. b.chosen) (read number me c.requires long few h size trim same trimmed) ∙ same))
+    (ap holds (c.from_words.ensures ∙ ap (λ b. b.candidates) (read number me c.requires long few h size trim same trimmed))) in
+    let step = step_takes number me c.requires long few h size trim same trimmed c.in-Takes.ensures group all c.saturating_add-self.result c.saturating_add-self.ensures in
     let inside = subst (Within me.sheet.marks) (sym all) (group_within number me c.requires long few h size trim same trimmed) in
-    let p = passes (view number me) (formed number me) (set me.branches (me.count - 1) trim) (me.count - 1) me.table.rows group c.saturating-add-self.result refl step inside in
+    let p = passes (view number me) (formed number me) (set me.branches (me.count - 1) trim) (me.count - 1) me.table.rows group c.saturating_add-self.result refl step inside in
     (me.alike, (p.chosens, (p.candidates, (p.apart, (p.plex, (p.ordered, (p.inside, tt)))))))
 
-pub offset-bounds-self-at-in-Splits : goal.offset-bounds-self-at-in-Splits
-offset-bounds-self-at-in-Splits g c = omega (arith, few_open c.args.self.now, c.requires)
+pub offset_bounds-self-at-in-Splits : goal.offset_bounds-self-at-in-Splits
+offset_bounds-self-at-in-Splits g c = omega (arith, few_open c.args.self.now, c.requires)
 
 pub bounds-self-at-in-Splits : goal.bounds-self-at-in-Splits
 bounds-self-at-in-Splits g c = omega (arith, few_open c.args.self.now, c.requires)
 
-pub offset-bounds-self-at-in-Splits-2 : goal.offset-bounds-self-at-in-Splits-2
-offset-bounds-self-at-in-Splits-2 g c = omega (arith, few_open c.args.self.now, c.requires)
+pub offset_bounds-self-at-in-Splits-2 : goal.offset_bounds-self-at-in-Splits-2
+offset_bounds-self-at-in-Splits-2 g c = omega (arith, few_open c.args.self.now, c.requires)
 
 pub bounds-self-at-in-Splits-2 : goal.bounds-self-at-in-Splits-2
 bounds-self-at-in-Splits-2 g c =
@@ -82,11 +82,11 @@ bounds-self-at-in-Splits-2 g c =
     let r = room number me c.requires long few h size trim same trimmed c.in-Splits.u c.in-Splits.ensures in
     omega (arith, r)
 
-pub overflow-add-self : goal.overflow-add-self
-overflow-add-self g c = omega (arith, few_open c.args.self.now, c.requires)
+pub overflow_add-self : goal.overflow_add-self
+overflow_add-self g c = omega (arith, few_open c.args.self.now, c.requires)
 
-pub invariant-of-self-in-Splits : goal.invariant-of-self-in-Splits
-invariant-of-self-in-Splits g c =
+pub invariant_of-self-in-Splits : goal.invariant_of-self-in-Splits
+invariant_of-self-in-Splits g c =
     let me = c.args.self.now in
     let number = g.R.CeilingRule.number in
     let long : length me.branches ≡ 129 = search rules in
@@ -103,13 +103,13 @@ invariant-of-self-in-Splits g c =
     let seen = read number me c.requires long few h size trim same trimmed in
     let stays : holds b.chosen ≡ chosen_at me.branches (me.count - 1) = ap holds (ap (λ x. x.chosen) seen ∙ same) in
     let rest : holds c.words-rest.result ≡ holds trim.candidates ∖ only u =
-    ap holds c.words-rest.ensures ∙ c.without.ensures ∙ ap (λ t. t ∖ only u) (ap holds (c.from-words-in-Splits.ensures ∙ ap (λ x. x.candidates) seen)) in
+    ap holds c.words-rest.ensures ∙ c.without.ensures ∙ ap (λ t. t ∖ only u) (ap holds (c.from_words-in-Splits.ensures ∙ ap (λ x. x.candidates) seen)) in
     let joins : holds c.words-chosen.result ≡ chosen_at me.branches (me.count - 1) ∪ only u =
     ap holds c.words-chosen.ensures ∙ c.with.ensures.inside (mark_small number me c.requires long few h size trim same trimmed u falls)
-    ∙ ap (λ t. t ∪ only u) (ap holds (c.from-words-in-Splits-2.ensures ∙ ap (λ x. x.chosen) seen ∙ same)) in
-    let step = step_splits number me c.requires long few h size trim same trimmed u falls b d stays rest joins rest c.saturating-add-self.result c.saturating-add-self.ensures in
+    ∙ ap (λ t. t ∪ only u) (ap holds (c.from_words-in-Splits-2.ensures ∙ ap (λ x. x.chosen) seen ∙ same)) in
+    let step = step_splits number me c.requires long few h size trim same trimmed u falls b d stays rest joins rest c.saturating_add-self.result c.saturating_add-self.ensures in
     let p = passes (view number me) (formed number me) (set (set (set me.branches (me.count - 1) trim) (me.count - 1) b) (me.count - 1 + 1) d) (me.count - 1 + 2) me.table.rows me.held.set.words
-    c.saturating-add-self.result refl step (held_within me) in
+    c.saturating_add-self.result refl step (held_within me) in
     (me.alike, (p.chosens, (p.candidates, (p.apart, (p.plex, (p.ordered, (p.inside, tt)))))))
 
 pub returns-in-Closes : goal.returns-in-Closes
@@ -123,7 +123,7 @@ returns-in-Closes g c =
     let trim = c.trim.new.self in
     let same = c.trim.ensures.chosen in
     let trimmed = c.trim.ensures.trimmed in
-    let step = step_closes number me c.requires long few h size trim same trimmed c.in-Closes.ensures c.saturating-add-self.result c.saturating-add-self.ensures in
+    let step = step_closes number me c.requires long few h size trim same trimmed c.in-Closes.ensures c.saturating_add-self.result c.saturating_add-self.ensures in
     step
 
 pub returns-in-Takes : goal.returns-in-Takes
@@ -140,9 +140,9 @@ returns-in-Takes g c =
     let group = c.of-self.result.set.words in
     let all : holds group ≡ chosen_at me.branches (me.count - 1) ∪ holds trim.candidates =
     ap members c.of-self.ensures ∙ c.or.ensures
-    ∙ ap₂ ◌∪◌ (ap holds (c.from-words-chosen.ensures ∙ ap (λ b. b.chosen) (read number me c.requires long few h size trim same trimmed) ∙ same))
-    (ap holds (c.from-words.ensures ∙ ap (λ b. b.candidates) (read number me c.requires long few h size trim same trimmed))) in
-    let step = step_takes number me c.requires long few h size trim same trimmed c.in-Takes.ensures group all c.saturating-add-self.result c.saturating-add-self.ensures in
+    ∙ ap₂ ◌∪◌ (ap holds (c.from_words-chosen.ensures ∙ ap (λ b. b.chosen) (read number me c.requires long few h size trim same trimmed) ∙ same))
+    (ap holds (c.from_words.ensures ∙ ap (λ b. b.candidates) (read number me c.requires long few h size trim same trimmed))) in
+    let step = step_takes number me c.requires long few h size trim same trimmed c.in-Takes.ensures group all c.saturating_add-self.result c.saturating_add-self.ensures in
     step
 
 pub returns-in-Splits : goal.returns-in-Splits
@@ -163,9 +163,9 @@ returns-in-Splits g c =
     let seen = read number me c.requires long few h size trim same trimmed in
     let stays : holds b.chosen ≡ chosen_at me.branches (me.count - 1) = ap holds (ap (λ x. x.chosen) seen ∙ same) in
     let rest : holds c.words-rest.result ≡ holds trim.candidates ∖ only u =
-    ap holds c.words-rest.ensures ∙ c.without.ensures ∙ ap (λ t. t ∖ only u) (ap holds (c.from-words-in-Splits.ensures ∙ ap (λ x. x.candidates) seen)) in
+    ap holds c.words-rest.ensures ∙ c.without.ensures ∙ ap (λ t. t ∖ only u) (ap holds (c.from_words-in-Splits.ensures ∙ ap (λ x. x.candidates) seen)) in
     let joins : holds c.words-chosen.result ≡ chosen_at me.branches (me.count - 1) ∪ only u =
     ap holds c.words-chosen.ensures ∙ c.with.ensures.inside (mark_small number me c.requires long few h size trim same trimmed u falls)
-    ∙ ap (λ t. t ∪ only u) (ap holds (c.from-words-in-Splits-2.ensures ∙ ap (λ x. x.chosen) seen ∙ same)) in
-    let step = step_splits number me c.requires long few h size trim same trimmed u falls b d stays rest joins rest c.saturating-add-self.result c.saturating-add-self.ensures in
+    ∙ ap (λ t. t ∪ only u) (ap holds (c.from_words-in-Splits-2.ensures ∙ ap (λ x. x.chosen) seen ∙ same)) in
+    let step = step_splits number me c.requires long few h size trim same trimmed u falls b d stays rest joins rest c.saturating_add-self.result c.saturating_add-self.ensures in
     step

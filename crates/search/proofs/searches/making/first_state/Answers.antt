@@ -17,27 +17,27 @@ pub returns : goal.returns
 returns g c =
     let m = g.S.Sheet.meaning c.args.sheet.now in
     let k = c.args.k in
-    let copy = c.copy-of-copy.result in
+    let copy = c.copy_of-copy.result in
     let table = c.if-floor-first.table in
-    let marks = c.copy-of-copy.ensures.marks in
-    let agrees = c.copy-of-copy.ensures.agrees in
+    let marks = c.copy_of-copy.ensures.marks in
+    let agrees = c.copy_of-copy.ensures.agrees in
     let held = c.of.result.set in
-    let top = c.first-group-first.result.top in
+    let top = c.first_group-first.result.top in
     let count = c.if-floor-first.count in
-    let bs = c.table-of.result in
-    let same : held ≡ c.first-group-first.result.group = c.of.ensures in
+    let bs = c.table_of.result in
+    let same : held ≡ c.first_group-first.result.group = c.of.ensures in
     let first : Peels copy.marks k (bit_meaning copy).agrees (below copy.marks) (members held) top =
-    subst (λ s. Peels copy.marks k (bit_meaning copy).agrees (below copy.marks) (members s) top) (sym same) c.first-group-first.ensures in
+    subst (λ s. Peels copy.marks k (bit_meaning copy).agrees (below copy.marks) (members s) top) (sym same) c.first_group-first.ensures in
     let floor : c.count-floor.result ≡ card 128 (members held) = c.count-floor.ensures ∙ ap (λ s. card 128 (members s)) (sym same) in
     elim c.if-floor-first.branch [
       | then-floor-first w ↦
-          (let table' = w.co-prune.new.sheet in
-          let left' = w.co-prune.new.left in
+          (let table' = w.co_prune.new.sheet in
+          let left' = w.co_prune.new.left in
           let more : card 128 (members held) < top = omega (arith, floor, w.if-floor-first.true) in
-          let pairs : pair_places_lem (bit_meaning copy) ≤ length c.args.pair-space.now = omega (arith, ap₂ agreements marks agrees, c.requires.1.1.1) in
+          let pairs : pair_places_lem (bit_meaning copy) ≤ length c.args.pair_space.now = omega (arith, ap₂ agreements marks agrees, c.requires.1.1.1) in
           let remains : Remains (bit_meaning copy) k c.count-floor.result (bit_meaning table') (members left') =
-          accepted (bit_meaning copy) k c.count-floor.result (length c.args.mark-space.now) (length c.args.pair-space.now) w.co-prune.result (bit_meaning table') (members left')
-          c.requires.0 c.requires.1.0 (omega (arith, marks, c.requires.1.1.0)) pairs (omega (arith, floor, card_le 128 (members held))) w.co-prune.ensures.prunes in
+          accepted (bit_meaning copy) k c.count-floor.result (length c.args.mark_space.now) (length c.args.pair_space.now) w.co_prune.result (bit_meaning table') (members left')
+          c.requires.0 c.requires.1.0 (omega (arith, marks, c.requires.1.1.0)) pairs (omega (arith, floor, card_le 128 (members held))) w.co_prune.ensures.prunes in
           let largest : Largest copy.marks (ends_needed k (card 128 (members held))) (shared_needed k (card 128 (members held))) (bit_meaning copy).agrees (bit_meaning table).agrees =
           subst (λ f. Largest copy.marks (ends_needed k f) (shared_needed k f) (bit_meaning copy).agrees (bit_meaning table).agrees) floor
           (subst (λ t. Largest copy.marks (ends_needed k c.count-floor.result) (shared_needed k c.count-floor.result) (bit_meaning copy).agrees t)
@@ -45,7 +45,7 @@ returns g c =
           let left : holds c.words.result ≡ left_marks copy.marks (ends_needed k (card 128 (members held))) (bit_meaning table).agrees =
           ap holds c.words.ensures ∙ ap members w.left-is ∙ remains.those
           ∙ ap₂ (λ f t. left_marks copy.marks (ends_needed k f) (bit_meaning t).agrees) floor (sym w.table-is) in
-          let opens = one_open bs count (record { chosen = 0 ∷ 0 ∷ 0 ∷ 0 ∷ []; candidates = c.words.result }) _ w.count-is c.table-of.ensures zeros_none left in
+          let opens = one_open bs count (record { chosen = 0 ∷ 0 ∷ 0 ∷ 0 ∷ []; candidates = c.words.result }) _ w.count-is c.table_of.ensures zeros_none left in
           record {
             made = record {
               alike = ap (λ t. t.marks) w.table-is ∙ remains.marks;
@@ -62,6 +62,6 @@ returns g c =
               made = λ rule. made_done m k rule copy table held top (opened bs count) marks agrees first few w.table-is (ap (opened bs) w.count-is);
               closed = λ rule l. w.count-is;
             };
-            idle = λ e. (w.mark-space-is, w.pair-space-is);
+            idle = λ e. (w.mark_space-is, w.pair_space-is);
           })
     ]
