@@ -12,7 +12,15 @@ invariant_of-result g c =
     let rule = g.R.CeilingRule.number c.args.rule in
     let s = c.first_state-start.result in
     let w = c.first_state-start.ensures.made in
-    (w.alike, (starts_chosens m k rule s w, (starts_candidates m k rule s w, (starts_apart m k rule s w, (starts_plex m k rule s w, (starts_ordered m k rule s w, (starts_inside m k rule s w, tt)))))))
+    record {
+      alike = w.alike;
+      chosens = starts_chosens m k rule s w;
+      candidates = starts_candidates m k rule s w;
+      apart = starts_apart m k rule s w;
+      plex = starts_plex m k rule s w;
+      ordered = starts_ordered m k rule s w;
+      inside = starts_inside m k rule s w;
+    }
 
 pub returns : goal.returns
 returns g c =

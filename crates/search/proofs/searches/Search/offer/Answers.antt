@@ -20,19 +20,12 @@ invariant_of-self g c =
     let same : holds words ≡ among list = ap members c.of-self.ensures ∙ judged.1 in
     let larger : held_size s < card me.sheet.marks (holds words) = omega (arith, judged.0.larger, ap (card me.sheet.marks) same) in
     let f = formed_offer s (formed g.R.CeilingRule.number me) (holds words) larger in
-    let within : Within me.sheet.marks (holds words) = subst (Within me.sheet.marks) (sym same) (rising_in me.sheet.marks list judged.0.rising_marks) in (
-      me.alike,
-      (
-        me.chosens,
-        (
-          me.candidates,
-          (
-            me.apart,
-            (
-              plex_from me.branches me.count me.sheet.marks me.k me.table.rows words f.branches,
-              (me.ordered, (inside_from me.sheet.marks words within, tt)),
-            ),
-          ),
-        ),
-      ),
-    )
+    let within : Within me.sheet.marks (holds words) = subst (Within me.sheet.marks) (sym same) (rising_in me.sheet.marks list judged.0.rising_marks) in record {
+      alike = me.alike;
+      chosens = me.chosens;
+      candidates = me.candidates;
+      apart = me.apart;
+      plex = plex_from me.branches me.count me.sheet.marks me.k me.table.rows words f.branches;
+      ordered = me.ordered;
+      inside = inside_from me.sheet.marks words within;
+    }

@@ -36,7 +36,15 @@ invariant_of-self g c =
     let trimmed = c.trim.ensures.trimmed in
     let step = step_closes number me c.requires long few h size trim same trimmed c.in-Closes.ensures c.saturating_add-self.result c.saturating_add-self.ensures in
     let p = passes (view number me) (formed number me) (set me.branches (me.count - 1) trim) (me.count - 1) me.table.rows me.held.set.words c.saturating_add-self.result refl step (held_within me) in
-    (me.alike, (p.chosens, (p.candidates, (p.apart, (p.plex, (p.ordered, (p.inside, tt)))))))
+    record {
+      alike = me.alike;
+      chosens = p.chosens;
+      candidates = p.candidates;
+      apart = p.apart;
+      plex = p.plex;
+      ordered = p.ordered;
+      inside = p.inside;
+    }
 
 pub invariant_of-self-in-Takes : goal.invariant_of-self-in-Takes
 invariant_of-self-in-Takes g c =
@@ -57,7 +65,15 @@ invariant_of-self-in-Takes g c =
     let step = step_takes number me c.requires long few h size trim same trimmed c.in-Takes.ensures group all c.saturating_add-self.result c.saturating_add-self.ensures in
     let inside = subst (Within me.sheet.marks) (sym all) (group_within number me c.requires long few h size trim same trimmed) in
     let p = passes (view number me) (formed number me) (set me.branches (me.count - 1) trim) (me.count - 1) me.table.rows group c.saturating_add-self.result refl step inside in
-    (me.alike, (p.chosens, (p.candidates, (p.apart, (p.plex, (p.ordered, (p.inside, tt)))))))
+    record {
+      alike = me.alike;
+      chosens = p.chosens;
+      candidates = p.candidates;
+      apart = p.apart;
+      plex = p.plex;
+      ordered = p.ordered;
+      inside = p.inside;
+    }
 
 pub offset_bounds-self-at-in-Splits : goal.offset_bounds-self-at-in-Splits
 offset_bounds-self-at-in-Splits g c = omega (arith, few_open c.args.self.now, c.requires)
@@ -110,7 +126,15 @@ invariant_of-self-in-Splits g c =
     let step = step_splits number me c.requires long few h size trim same trimmed u falls b d stays rest joins rest c.saturating_add-self.result c.saturating_add-self.ensures in
     let p = passes (view number me) (formed number me) (set (set (set me.branches (me.count - 1) trim) (me.count - 1) b) (me.count - 1 + 1) d) (me.count - 1 + 2) me.table.rows me.held.set.words
     c.saturating_add-self.result refl step (held_within me) in
-    (me.alike, (p.chosens, (p.candidates, (p.apart, (p.plex, (p.ordered, (p.inside, tt)))))))
+    record {
+      alike = me.alike;
+      chosens = p.chosens;
+      candidates = p.candidates;
+      apart = p.apart;
+      plex = p.plex;
+      ordered = p.ordered;
+      inside = p.inside;
+    }
 
 pub returns-in-Closes : goal.returns-in-Closes
 returns-in-Closes g c =
