@@ -1,7 +1,7 @@
 -- The formulas are the rules as they are said.
-use Rattle.std.proofs.Common.{◌≡◌, ℕ, ◌+◌, ◌<◌, ◌≤◌, Bool, true, false, cond, ◌&&◌, leb, Decides, sym, refl, ap, ◌∙◌, subst, inl, inr, arith}
+use Rattle.std.proofs.Common.{◌≡◌, ℕ, Bool, true, false, cond, leb, Decides, sym, refl, ap, ◌∙◌, subst, inl, inr, arith}
 use Rattle.std.proofs.lemmas.Bool.{cases_lt, cases_Bool, and_parts, and_from, leb-true, le-leb, true≢false}
-use Rattle.plex.specs.Sets.{Set, Agreement, card, Within, is_kplex_lem}
+use Rattle.plex.specs.Sets.{Set, Agreement, card, Within}
 use Rattle.plex.proofs.Decide.{kplex_decides}
 use Rattle.ceiling.specs.Formulas.{marks_of_both, degree_number, pair_number, smallest, smallest_of_two, in_range_lem, applies, by_degree_lem, by_pair_lem}
 use Rattle.ceiling.specs.Laws.{Smallest, SmallestOfTwo, AskedWell, IsDegreeNumber, IsPairNumber, FormulasStand}

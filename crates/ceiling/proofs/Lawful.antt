@@ -1,11 +1,11 @@
 -- The rules keep the law.
-use Rattle.std.proofs.Common.{◌≡◌, ℕ, ◌+◌, ◌-◌, ◌<◌, ◌≤◌, min, Bool, true, false, not, ◌&&◌, ◌||◌, ◌⊎◌, sym, ap, ◌∙◌, inl, inr, arith}
+use Rattle.std.proofs.Common.{◌≡◌, ℕ, ◌≤◌, true, inl, inr, arith}
 use Rattle.std.proofs.lemmas.Bool.{cases_lt, cases_Bool}
 use Rattle.plex.specs.Sets.{Set, Agreement, card, ◌∩◌, ◌∪◌, ◌∖◌, Kplex, Within}
 use Rattle.plex.proofs.Count.{card_mono, card_or, card_split}
-use Rattle.ceiling.specs.Rules.{Number, Between, reply, Lawful, smaller}
-use Rattle.ceiling.specs.Formulas.{marks_of_both, misses, degree_number, pair_number, applies, by_degree_lem, by_pair_lem}
-use Rattle.ceiling.specs.Laws.{Smallest, SmallestOfTwo, AskedWell, RulesAreLawful}
+use Rattle.ceiling.specs.Rules.{Number, Between, Lawful, smaller}
+use Rattle.ceiling.specs.Formulas.{marks_of_both, degree_number, pair_number, applies, by_degree_lem, by_pair_lem}
+use Rattle.ceiling.specs.Laws.{RulesAreLawful}
 use Rattle.ceiling.proofs.Formulas.{applies_decides, unasked, degree_is, pair_is}
 
 -- C read without S says the same of what lies between

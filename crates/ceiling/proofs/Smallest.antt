@@ -1,10 +1,10 @@
 -- The smallest of the numbers that a set's marks have.
-use Rattle.std.proofs.Common.{◌≡◌, ℕ, ◌+◌, ◌<◌, ◌≤◌, Bool, true, false, not, ◌&&◌, eqb, Some, None, Option, sym, refl, ap, ◌∙◌, inl, inr, arith}
+use Rattle.std.proofs.Common.{◌≡◌, ℕ, ◌<◌, ◌≤◌, true, Some, None, Option, refl, ◌∙◌, arith}
 use Rattle.std.proofs.lemmas.Bool.Decides.{nat_tests}
-use Rattle.std.proofs.lemmas.Bool.{and_parts, true≢false}
+use Rattle.std.proofs.lemmas.Bool.{and_parts}
 use Rattle.plex.specs.Sets.{Set, card, only, ◌∖◌, Within}
 use Rattle.plex.specs.Least.{Least, least}
-use Rattle.plex.proofs.Count.{card_none, card_some, card_less}
+use Rattle.plex.proofs.Count.{card_none, card_less}
 use Rattle.plex.proofs.Least.{least_is}
 use Rattle.ceiling.specs.Formulas.{number_at, smallest, smallest_of_two}
 use Rattle.ceiling.specs.Laws.{Smallest, SmallestOfTwo}

@@ -1,5 +1,5 @@
 -- What the rules' numbers are, in the subject's words, and that they are lawful. Assumes nothing.
-use Rattle.std.specs.Prelude.{◌≡◌, ℕ, ◌<◌, ◌≤◌, true, false, ◌⊎◌, ◌≢◌}
+use Rattle.std.specs.Prelude.{◌≡◌, ℕ, ◌<◌, ◌≤◌, true, ◌≢◌}
 use Rattle.plex.specs.Sets.{Set, Agreement, card, Kplex, Within}
 use Rattle.ceiling.specs.Rules.{Number, Lawful, smaller}
 use Rattle.ceiling.specs.Formulas.{marks_of_both, degree_number, pair_number, by_degree_lem, by_pair_lem}

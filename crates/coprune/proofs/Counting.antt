@@ -1,8 +1,8 @@
 -- Counting agreements mark by mark.
-use Rattle.std.proofs.Common.{◌≡◌, ℕ, zero, suc, ◌+◌, ◌*◌, ◌<◌, ◌≤◌, Bool, true, false, not, ◌&&◌, ◌||◌, eqb, ltb, sym, refl, ap, ◌∙◌, add-zero, add-one, arith}
+use Rattle.std.proofs.Common.{◌≡◌, ℕ, zero, suc, ◌+◌, ◌*◌, ◌≤◌, refl, add-one, arith}
 use mathlib.Core.Path.{fun_ext}
 use Rattle.std.proofs.lemmas.Bool.Decides.{nat_tests}
-use Rattle.plex.specs.Sets.{Set, none, only, below, ◌∪◌}
+use Rattle.plex.specs.Sets.{none, only, below, ◌∪◌}
 use Rattle.pruning.specs.Pruned.{sum_to}
 
 pub sum_none : (f : ℕ → ℕ) → sum_to 0 f ≡ 0

@@ -1,5 +1,5 @@
 -- A sweep that strikes nothing leaves the largest set.
-use Rattle.std.proofs.Common.{◌≡◌, ℕ, true, false, ◌&&◌, ◌⊎◌, sym, refl, ap, ◌∙◌, subst, inl, inr}
+use Rattle.std.proofs.Common.{◌≡◌, ℕ, true, false, sym, ◌∙◌, subst, inl, inr}
 use Rattle.std.proofs.lemmas.Bool.{and_cases, true≢false}
 use Rattle.plex.specs.Meaning.{Meaning}
 use Rattle.pruning.specs.Pruned.{Largest, offends}

@@ -1,9 +1,8 @@
 -- Looking at all agreements, mark by mark.
-use Rattle.std.proofs.Common.{◌≡◌, ℕ, ◌+◌, ◌<◌, ◌≤◌, Bool, true, false, not, ◌&&◌, ltb, ◌⊎◌, sym, refl, ap, ◌∙◌, subst, ap₂, inl, inr, arith}
-use Rattle.std.proofs.lemmas.Bool.{cases_order, cases_lt, cases_Bool, and_left, and_from, not_from_false, le-ltb, true≢false, false≢true}
+use Rattle.std.proofs.Common.{◌≡◌, ℕ, ◌+◌, ◌<◌, ◌≤◌, Bool, true, false, not, ◌&&◌, sym, refl, ap, ◌∙◌, ap₂, inl, inr, arith}
+use Rattle.std.proofs.lemmas.Bool.{cases_order, cases_lt, cases_Bool, and_left, and_from, le-ltb, true≢false, false≢true}
 use Rattle.plex.specs.Sets.{Set, below, ◌∖◌}
 use Rattle.plex.specs.Meaning.{Meaning}
-use Rattle.pruning.specs.Pruned.{offends}
 use Rattle.pruning.proofs.Keeping.{offends_both_ways}
 use Rattle.coprune.specs.Coprune.{Wears, at_ends, bad, LooksAmong, Sweeps}
 use Rattle.coprune.proofs.Wearing.{wears_self, wears_on, wears_fewer}

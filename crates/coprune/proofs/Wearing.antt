@@ -1,9 +1,9 @@
 -- What is left of a sheet after strikes, one after another.
-use Rattle.std.proofs.Common.{◌≡◌, ℕ, ◌<◌, ◌≤◌, Bool, true, false, ◌&&◌, sym, refl, ap, ◌∙◌, subst, ap₂, arith}
+use Rattle.std.proofs.Common.{◌≡◌, ℕ, ◌<◌, ◌≤◌, true, sym, refl, ap, ◌∙◌, subst, ap₂, arith}
 use Rattle.std.proofs.lemmas.Bool.{and_parts}
-use Rattle.plex.specs.Sets.{Agreement, struck}
+use Rattle.plex.specs.Sets.{Agreement}
 use Rattle.plex.specs.Meaning.{Meaning, Struck}
-use Rattle.pruning.specs.Pruned.{Kept, offends, agreements_at_ends}
+use Rattle.pruning.specs.Pruned.{Kept, agreements_at_ends}
 use Rattle.pruning.proofs.Keeping.{kept_self, kept_on, kept_struck, kept_fewer, struck_fewer}
 use Rattle.coprune.specs.Coprune.{Wears, at_ends, bad}
 use Rattle.plex.proofs.Within.{among}

@@ -1,13 +1,9 @@
 -- The agreement that the words of pairs give.
-use Rattle.std.proofs.Common.{◌≡◌, ℕ, zero, suc, ◌+◌, ◌^◌, ◌<◌, ◌≤◌, min, max, Bool, true, false, ◌&&◌, ◌||◌, eqb, ltb, ◌⊎◌, List, [], ◌∷◌, ◌++◌, length, get_or, take, Decides, sym, refl, ap, ◌∙◌, ap₂, inl, inr, arith}
-use mathlib.Core.Path.{fun_ext}
-use mathlib.Core.Bool.{or-false}
-use Rattle.std.specs.List.{HoldsAt, IsAnyAnswer, ContainsAt as Has, AllByRecursion as All}
+use Rattle.std.proofs.Common.{◌≡◌, ℕ, ◌^◌, ◌<◌, Bool, true, false, ◌&&◌, ◌||◌, eqb, ltb, List, [], ◌∷◌, sym, refl, ◌∙◌, ap₂, arith}
+use Rattle.std.specs.List.{IsAnyAnswer, AllByRecursion as All}
 use Rattle.std.proofs.lemmas.List.Elements.{contains_decides}
-use Rattle.std.proofs.lemmas.List.{take_more, take_all}
-use Rattle.std.proofs.lemmas.Bool.{cases_lt, cases_Bool, eqb-true}
 use Rattle.std.proofs.lemmas.Bool.Decides.{nat_tests, same_from_decides, Decides-eqb, Decides-like, Decides-by_or}
-use Rattle.plex.specs.Sets.{Set, Agreement, none, only, among, ◌∪◌}
+use Rattle.plex.specs.Sets.{among}
 use Rattle.plex.specs.Meaning.{agree_by}
 use Rattle.fileword.specs.Layout.{pair_word}
 use Rattle.fileword.specs.Files.{Pair, NamesMarks, PairFile, named_in}

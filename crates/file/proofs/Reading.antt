@@ -1,11 +1,11 @@
 -- What a file's sheet reads from it.
-use Rattle.std.proofs.Common.{◌≡◌, ℕ, ◌+◌, ◌<◌, ◌≤◌, min, Bool, true, false, List, get_or, sym, refl, ap, ◌∙◌, ap₂, arith}
+use Rattle.std.proofs.Common.{◌≡◌, ℕ, ◌<◌, ◌≤◌, true, List, get_or, ap, ◌∙◌, ap₂, arith}
 use Rattle.std.proofs.lemmas.Bool.{false≢true}
 use Rattle.plex.specs.Meaning.{agree_by}
 use Rattle.plex.specs.Distance.{Sighting, sighted_alike}
-use Rattle.fileword.specs.Files.{Good, PairFile, MeasuredFile, Written}
-use Rattle.fileword.specs.Faults.{takes, marks_said}
-use Rattle.fileword.specs.Laws.{said, sighting_at}
+use Rattle.fileword.specs.Files.{Good, MeasuredFile, Written}
+use Rattle.fileword.specs.Faults.{takes}
+use Rattle.fileword.specs.Laws.{sighting_at}
 use Rattle.fileword.specs.declared.files.Form.{Form}
 use Rattle.fileword.specs.declared.files.Form.TheVariants.{Pairs, Measured}
 use Rattle.fileword.specs.declared.files.Summary.{Summary}

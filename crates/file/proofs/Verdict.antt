@@ -1,5 +1,5 @@
 -- Words of which none has a fault, and which have an end, are a good file.
-use Rattle.std.proofs.Common.{◌≡◌, ℕ, ◌<◌, ◌≤◌, Bool, true, false, not, ◌&&◌, eqb, ltb, ◌⊎◌, List, length, sym, refl, ap, ◌∙◌, inl, inr, arith}
+use Rattle.std.proofs.Common.{◌≡◌, ℕ, ◌<◌, ◌≤◌, Bool, false, ◌&&◌, eqb, ltb, List, length, inl, inr}
 use Rattle.std.proofs.lemmas.Bool.{cases_lt, le-ltb, and_left, and_right}
 use Rattle.fileword.specs.Faults.{faulty, lacks_end_lem}
 use Rattle.fileword.specs.Laws.{Spotless}

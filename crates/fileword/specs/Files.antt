@@ -1,5 +1,5 @@
 -- What a good file is, by what it is written from. Assumes nothing.
-use Rattle.std.specs.Prelude.{◌≡◌, ℕ, ◌^◌, ◌<◌, ◌≤◌, Bool, true, false, ◌&&◌, ◌||◌, ◌⊎◌, List, [], ◌∷◌, ◌++◌, map, length, ℤ, pos, negsuc, ◌≤ℤ◌, ◌==◌}
+use Rattle.std.specs.Prelude.{◌≡◌, ℕ, ◌^◌, ◌<◌, ◌≤◌, Bool, false, ◌&&◌, ◌||◌, ◌⊎◌, List, [], ◌∷◌, ◌++◌, map, length, ℤ, pos, negsuc, ◌≤ℤ◌, ◌==◌}
 use Rattle.std.specs.List.{flat_map, AllByRecursion as All}
 use Rattle.plex.specs.Distance.{Point, Sighting}
 use Rattle.fileword.specs.Layout.{head_word, pair_word, tolerance_word, end_word, point_words}

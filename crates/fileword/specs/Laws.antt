@@ -1,6 +1,6 @@
 -- The laws of the file check. Assumes nothing.
-use Rattle.std.specs.Prelude.{◌≡◌, ℕ, ◌+◌, ◌*◌, ◌^◌, ◌<◌, min, max, Bool, true, false, cond, not, ◌&&◌, List, length, Result, slice_index_or}
-use Rattle.plex.specs.Distance.{Sighting, Point}
+use Rattle.std.specs.Prelude.{◌≡◌, ℕ, ◌+◌, ◌*◌, ◌^◌, ◌<◌, min, max, true, false, cond, List, Result, slice_index_or}
+use Rattle.plex.specs.Distance.{Sighting}
 use Rattle.plex.specs.Sets.{among}
 use Rattle.fileword.specs.Layout.{pair_word, load, point_of}
 use Rattle.fileword.specs.Files.{Pair, PairFile, MeasuredFile, Good, named_in}

@@ -1,6 +1,6 @@
 -- The layout of a file's words. The top four bits of a word are its kind, the other 28 its load. Assumes nothing.
 use Rattle.std.specs.Prelude.{ℕ, ◌+◌, ◌-◌, ◌*◌, ◌/◌, ◌%◌, ◌^◌, cond, List, [], ◌∷◌, ℤ, pos, negsuc, nat_lt}
-use Rattle.plex.specs.Distance.{Point, Sighting}
+use Rattle.plex.specs.Distance.{Point}
 
 abbrev pub kind : ℕ → ℕ
 kind w = w / 2 ^ 28

@@ -1,12 +1,12 @@
 -- What four words hold: how many marks, and what becomes of them where a word is combined or a bit is set or cleared.
-use Rattle.std.proofs.Common.{◌≡◌, ℕ, zero, suc, ◌+◌, ◌-◌, ◌*◌, ◌/◌, ◌%◌, ◌^◌, ◌<◌, ◌≤◌, Bool, true, false, not, ◌&&◌, ◌||◌, eqb, ◌⊎◌, List, [], ◌∷◌, length, get_or, set, sym, refl, ap, ◌∙◌, ap₂, inl, inr, arith}
+use Rattle.std.proofs.Common.{◌≡◌, ℕ, zero, suc, ◌+◌, ◌-◌, ◌*◌, ◌/◌, ◌%◌, ◌^◌, ◌<◌, ◌≤◌, Bool, true, false, not, ◌&&◌, ◌||◌, eqb, List, [], ◌∷◌, length, get_or, set, sym, ap, ◌∙◌, ap₂, inl, inr, arith}
 use mathlib.Core.Path.{fun_ext}
 use lib.Bits.{bit_and, bit_or}
 use lib.Count.{ones}
 use Rattle.std.proofs.lemmas.Nat.{one_shl}
 use Rattle.std.proofs.lemmas.List.{get_or_past}
 use Rattle.std.proofs.lemmas.Bool.{eqb-true, cases_lt, both_ways}
-use Rattle.plex.specs.Sets.{Set, card, none, only, below, ◌∩◌, ◌∪◌, ◌∖◌, Within}
+use Rattle.plex.specs.Sets.{Set, card, only, ◌∪◌, ◌∖◌, Within}
 use Rattle.plex.specs.Words.{bits_of, holds}
 use Rattle.plex.proofs.Words.{card_words, holds_insert, holds_remove, bits_of_none}
 

@@ -6,7 +6,7 @@ use Rattle.fileword.specs.declared.files.FileRefusal.{FileRefusal}
 use Rattle.fileword.specs.declared.files.Wanted.TheVariants.{Either}
 use Rattle.fileword.proofs.Verdict.{one_verdict}
 use Rattle.page.specs.Bytes.{Stores}
-use Rattle.page.specs.Verdicts.{Verdict, OneVerdict}
+use Rattle.page.specs.Verdicts.{OneVerdict}
 use Rattle.page.specs.declared.verdict.Refusal.{Refusal}
 use Rattle.page.specs.declared.verdict.Refusal.TheVariants.{NotWords, Word}
 use Rattle.page.proofs.Storing.{words_known}

@@ -1,7 +1,7 @@
 -- The least of a set, found by going through its marks, is the least, and there is one.
-use Rattle.std.proofs.Common.{◌≡◌, ℕ, zero, suc, ◌<◌, ◌≤◌, Bool, true, false, cond, ltb, ◌⊎◌, Some, None, Option, sym, refl, ap, ◌∙◌, inl, inr, arith}
+use Rattle.std.proofs.Common.{◌≡◌, ℕ, zero, suc, Bool, true, false, ltb, Some, None, Option, sym, refl, ap, ◌∙◌, inl, inr, arith}
 use Rattle.std.proofs.lemmas.Bool.{cases_lt, cases_eq, ltb-true, ltb-false, cond_both, true≢false}
-use Rattle.plex.specs.Sets.{Set, Within}
+use Rattle.plex.specs.Sets.{Set}
 use Rattle.plex.specs.Least.{choose, least, Least}
 
 choose_step : (n : ℕ) (p : Set) (f : ℕ → ℕ) (b : Bool) (o : Option ℕ) → p n ≡ b → Least n p f o → Least (suc n) p f (choose b o n f)

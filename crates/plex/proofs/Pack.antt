@@ -1,9 +1,8 @@
-use Rattle.std.proofs.Common.{◌≡◌, ℕ, zero, suc, ◌+◌, ◌-◌, ◌*◌, ◌/◌, ◌%◌, ◌^◌, ◌<◌, ◌≤◌, min, max, Bool, true, false, not, ◌&&◌, ◌||◌, eqb, ◌⊎◌, List, [], ◌∷◌, length, get_or, sym, refl, ap, ◌∙◌, ap₂, inl, inr, zero-le, pow-suc, div-one, arith}
-use Rattle.std.proofs.lemmas.Bool.Decides.{nat_tests}
+use Rattle.std.proofs.Common.{◌≡◌, ℕ, zero, suc, ◌+◌, ◌-◌, ◌*◌, ◌/◌, ◌%◌, ◌^◌, ◌<◌, ◌≤◌, Bool, true, false, eqb, List, [], ◌∷◌, length, sym, refl, ap, ◌∙◌, ap₂, inl, inr, pow-suc, div-one, arith}
 use Rattle.std.proofs.lemmas.Bool.{cases_lt}
 use Rattle.plex.specs.Sets.{Set, one_if}
 use Rattle.plex.specs.Words.{bits_of, holds, word_of, words_of, Words}
-use Rattle.plex.proofs.Words.{bits_of_zero, bits_of_suc, bits_of_none, holds_low, holds_high}
+use Rattle.plex.proofs.Words.{bits_of_zero, bits_of_suc, holds_low, holds_high}
 
 bit_le : (b : Bool) → one_if b ≤ 1
 bit_le b = grind arith

@@ -1,5 +1,5 @@
 -- The rows of a sheet lie within its marks, so they are counted as well over 128 as over its marks.
-use Rattle.std.proofs.Common.{◌≡◌, ℕ, ◌<◌, ◌≤◌, Bool, true, false, not, ◌&&◌, ◌⊎◌, sym, ◌∙◌, inl, inr, arith}
+use Rattle.std.proofs.Common.{◌≡◌, ℕ, ◌<◌, true, ◌∙◌, inl, inr}
 use Rattle.std.proofs.lemmas.Bool.{cases_lt, both_ways, and_parts}
 use Rattle.plex.specs.Sets.{Set, card, ◌∩◌, ◌∖◌, ◌⊆◌, Among, TwoWay}
 use Rattle.plex.specs.Meaning.{Meaning}

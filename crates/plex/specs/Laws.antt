@@ -1,5 +1,5 @@
 -- The laws of sets, words and k-plexes, each proved where a contract names it. Assumes nothing.
-use Rattle.std.specs.Prelude.{◌≡◌, ℕ, ◌+◌, ◌-◌, ◌*◌, ◌/◌, ◌%◌, ◌^◌, ◌<◌, true, false, not, ◌&&◌, ◌||◌, List, length, set, Decides, Option, bit_and, bit_or, slice_index, slice_set}
+use Rattle.std.specs.Prelude.{◌≡◌, ℕ, ◌+◌, ◌-◌, ◌*◌, ◌/◌, ◌%◌, ◌^◌, ◌<◌, true, false, not, ◌&&◌, ◌||◌, List, length, Decides, Option, bit_and, bit_or, slice_index, slice_set}
 use Rattle.plex.specs.Sets.{Set, Agreement, card, ◌∩◌, ◌∪◌, ◌∖◌, only, ◌⊆◌, Kplex, Within, is_kplex_lem, rising}
 use Rattle.plex.specs.Least.{Least, least}
 use Rattle.plex.specs.Words.{bits_of, holds, ones_in, Words, words_of}

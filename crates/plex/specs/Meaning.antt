@@ -1,5 +1,5 @@
 -- What a sheet of marks means, with what is true of every sheet. Assumes nothing.
-use Rattle.std.specs.Prelude.{◌≡◌, ℕ, ◌≤◌, Bool, false, ◌&&◌, ◌||◌, nat_lt}
+use Rattle.std.specs.Prelude.{◌≡◌, ℕ, ◌≤◌, false, ◌&&◌, ◌||◌, nat_lt}
 use Rattle.std.proofs.Common.{ap, ap₂, ◌∙◌, le_refl}
 use Rattle.std.proofs.Math.Bool.{and_comm, or_comm, and-false}
 use Rattle.std.proofs.lemmas.Bool.{le-ltb}

@@ -1,5 +1,5 @@
 -- Sets of marks held in 32-bit words: bit b of word w stands for mark 32w + b. Assumes nothing.
-use Rattle.std.specs.Prelude.{◌≡◌, ℕ, zero, suc, ◌+◌, ◌*◌, ◌/◌, ◌%◌, ◌^◌, ◌<◌, Bool, List, [], ◌∷◌, ◌==◌, count_ones, slice_index}
+use Rattle.std.specs.Prelude.{ℕ, zero, suc, ◌+◌, ◌*◌, ◌/◌, ◌%◌, ◌^◌, ◌<◌, List, [], ◌∷◌, ◌==◌, count_ones, slice_index}
 use Rattle.plex.specs.Sets.{Set, one_if}
 
 -- the bits of a word

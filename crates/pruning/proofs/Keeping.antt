@@ -1,10 +1,10 @@
 -- Striking offenders one after another, until none is left.
-use Rattle.std.proofs.Common.{◌≡◌, ℕ, ◌+◌, ◌*◌, ◌<◌, ◌≤◌, Bool, true, false, not, ◌&&◌, ◌||◌, ltb, leb, ◌⊎◌, sym, refl, ap, ◌∙◌, subst, inl, inr, mul-le-mul_right, add-mul, one-mul, arith}
+use Rattle.std.proofs.Common.{◌≡◌, ℕ, ◌+◌, ◌*◌, ◌<◌, ◌≤◌, Bool, true, false, ◌&&◌, ◌||◌, ltb, ◌⊎◌, ap, ◌∙◌, inl, inr, mul-le-mul_right, add-mul, one-mul, arith}
 use Rattle.std.proofs.lemmas.Bool.{or_cases, or_parts, ltb-true, ltb-false, and_parts}
 use Rattle.std.proofs.lemmas.Bool.Decides.{nat_tests}
-use Rattle.plex.specs.Sets.{Set, Agreement, card, is_pair, struck, ◌∩◌, ◌⊑◌, TwoWay, Among}
+use Rattle.plex.specs.Sets.{Agreement, card, struck, ◌∩◌, TwoWay, Among}
 use Rattle.plex.proofs.Count.{card_mono, card_ext}
-use Rattle.pruning.specs.Pruned.{Good, Largest, Offends, offends, Kept, sum_to, agreements_at_ends}
+use Rattle.pruning.specs.Pruned.{Largest, Offends, offends, Kept, agreements_at_ends}
 use Rattle.pruning.proofs.Striking.{strike_keeps}
 use Rattle.pruning.proofs.Rounds.{sum_mono, total_strict}
 

@@ -1,5 +1,5 @@
 -- The laws, put together from their lemmas.
-use Rattle.std.proofs.Common.{◌≡◌, ℕ, ◌*◌}
+use Rattle.std.proofs.Common.{◌*◌}
 use mathlib.Core.Path.{fun_ext}
 use Rattle.pruning.specs.Laws.{CoPruning}
 use Rattle.pruning.specs.Rounds.{rounds}

@@ -1,12 +1,11 @@
 -- co-pruning in rounds gives the largest good set
-use Rattle.std.proofs.Common.{◌≡◌, ℕ, zero, suc, ◌+◌, ◌-◌, ◌*◌, ◌<◌, ◌≤◌, min, max, Bool, true, false, cond, not, ◌&&◌, ◌||◌, eqb, ltb, leb, ◌⊎◌, List, [], ◌∷◌, map, length, get_or, sym, refl, ap, ◌∙◌, ap₂, inl, inr, zero-le, zero-add, arith}
-use lib.ListN.{get_or-eq_default}
+use Rattle.std.proofs.Common.{◌≡◌, ℕ, zero, suc, ◌*◌, ◌<◌, ◌≤◌, true, false, leb, refl, inl, inr, zero-le, arith}
 use Rattle.std.proofs.lemmas.Bool.Decides.{nat_tests}
 use Rattle.std.proofs.lemmas.Bool.{cases_lt, cases_Bool, cases_eq, leb-true, le-leb, and_parts, and_from, false≢true}
-use Rattle.plex.specs.Sets.{Set, Agreement, card, below, is_pair, struck, only, ◌∩◌, ◌∪◌, ◌∖◌, ◌⊆◌, Kplex, ◌⊑◌, TwoWay, Among}
-use Rattle.pruning.specs.Pruned.{Good, Largest, Offends, between, either, left_marks, sum_to, agreements_at_ends}
+use Rattle.plex.specs.Sets.{Agreement, card, ◌∩◌, ◌⊑◌, TwoWay, Among}
+use Rattle.pruning.specs.Pruned.{Good, Largest, sum_to, agreements_at_ends}
 use Rattle.pruning.specs.Rounds.{one_round, rounds}
-use Rattle.plex.proofs.Count.{card_mono, card_le, card_strict, card_less}
+use Rattle.plex.proofs.Count.{card_mono, card_le, card_strict}
 
 pub sum_mono : (n : ℕ) (f g : ℕ → ℕ) → ((i : ℕ) → f i ≤ g i) → sum_to n f ≤ sum_to n g
 unfolding sum_to

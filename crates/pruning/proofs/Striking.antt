@@ -1,9 +1,9 @@
-use Rattle.std.proofs.Common.{◌≡◌, ℕ, zero, suc, ◌+◌, ◌-◌, ◌*◌, ◌<◌, ◌≤◌, min, max, Bool, true, false, cond, not, ◌&&◌, ◌||◌, eqb, ltb, leb, ◌⊎◌, sym, refl, ap, ◌∙◌, inl, inr, zero-le, arith}
+use Rattle.std.proofs.Common.{◌≡◌, ℕ, ◌+◌, ◌-◌, ◌*◌, ◌<◌, true, false, inl, inr, arith}
 use Rattle.std.proofs.lemmas.Bool.Decides.{nat_tests}
-use Rattle.std.proofs.lemmas.Bool.{cases_lt, cases_Bool, cases_eq, or_cases}
-use Rattle.plex.specs.Sets.{Set, Agreement, card, below, is_pair, struck, only, ◌∩◌, ◌∪◌, ◌∖◌, ◌⊆◌, Kplex, ◌⊑◌, TwoWay, Among}
-use Rattle.pruning.specs.Pruned.{Good, Largest, Offends, between, either, left_marks, sum_to, agreements_at_ends}
-use Rattle.plex.proofs.Count.{card_mono, card_ext, card_none, card_less, card_split}
+use Rattle.std.proofs.lemmas.Bool.{cases_Bool, or_cases}
+use Rattle.plex.specs.Sets.{Set, Agreement, card, struck, ◌∩◌, ◌∖◌, ◌⊆◌, Kplex, ◌⊑◌, TwoWay}
+use Rattle.pruning.specs.Pruned.{Good, Largest, Offends, between, either, left_marks}
+use Rattle.plex.proofs.Count.{card_mono, card_split}
 
 pub union_good : (n x y : ℕ) (g h : Agreement) → Good n x y g → Good n x y h → Good n x y (either g h)
 union_good n x y g h p q = record {

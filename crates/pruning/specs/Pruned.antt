@@ -1,6 +1,6 @@
 -- What co-pruning leaves: the largest set of agreements in which both ends of each have enough agreements and share
 -- enough marks. Assumes nothing.
-use Rattle.std.specs.Prelude.{◌≡◌, ℕ, zero, suc, ◌+◌, ◌-◌, ◌*◌, ◌<◌, ◌≤◌, Bool, true, false, ◌&&◌, ◌||◌, ◌⊎◌, nat_le, nat_lt}
+use Rattle.std.specs.Prelude.{◌≡◌, ℕ, zero, suc, ◌+◌, ◌-◌, ◌*◌, ◌<◌, ◌≤◌, Bool, true, ◌&&◌, ◌||◌, ◌⊎◌, nat_le, nat_lt}
 use Rattle.plex.specs.Sets.{Set, Agreement, TwoWay, ◌⊑◌, card, below, ◌∩◌, ◌∖◌}
 
 -- both ends of each agreement have at least a agreements, and share at least b marks that agree with both

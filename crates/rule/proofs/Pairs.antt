@@ -1,12 +1,10 @@
 -- A pass over pairs of marks: the lowest mark that is left, with each one after it.
-use Rattle.std.proofs.Common.{◌≡◌, ℕ, ◌+◌, ◌-◌, ◌<◌, ◌≤◌, Bool, true, false, not, ◌&&◌, ◌||◌, eqb, ◌⊎◌, sym, refl, ap, ◌∙◌, subst, ap₂, inl, inr, arith}
-use mathlib.Core.Path.{fun_ext}
-use mathlib.Core.Bool.{and_comm}
+use Rattle.std.proofs.Common.{◌≡◌, ℕ, ◌+◌, ◌-◌, ◌<◌, ◌≤◌, Bool, true, false, not, ◌&&◌, ◌||◌, eqb, ◌⊎◌, sym, refl, ap, ◌∙◌, subst, inl, inr, arith}
 use Rattle.std.proofs.lemmas.Bool.Decides.{nat_tests}
 use Rattle.std.proofs.lemmas.Bool.{cases_eq, cases_Bool, both_ways, and_parts}
 use Rattle.plex.specs.Sets.{Set, Agreement, card, none, only, ◌∩◌, ◌∪◌, ◌∖◌, ◌⊆◌}
-use Rattle.plex.proofs.Count.{card_ext, card_le, card_mono, card_or, card_less, card_some}
-use Rattle.ceiling.specs.Formulas.{spare, pair_number}
+use Rattle.plex.proofs.Count.{card_ext, card_mono, card_or, card_less, card_some}
+use Rattle.ceiling.specs.Formulas.{pair_number}
 use Rattle.ceiling.specs.Laws.{SmallestOfTwo}
 use Rattle.rule.specs.Passes.{Lowered}
 use Rattle.rule.proofs.Passing.{left_part}

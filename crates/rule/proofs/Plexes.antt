@@ -1,6 +1,6 @@
 -- A set is a k-plex if each of its marks misses at most k of its marks, itself counted.
-use Rattle.std.proofs.Common.{◌≡◌, ℕ, ◌+◌, ◌<◌, ◌≤◌, Bool, true, false, arith}
-use Rattle.plex.specs.Sets.{Set, Agreement, card, Kplex}
+use Rattle.std.proofs.Common.{◌≡◌, ℕ, ◌<◌, ◌≤◌, true, arith}
+use Rattle.plex.specs.Sets.{Set, Agreement, Kplex}
 use Rattle.plex.proofs.Count.{card_split}
 use Rattle.ceiling.specs.Formulas.{misses}
 

@@ -1,7 +1,7 @@
 -- What making puts together is the search that it is to leave.
-use Rattle.std.proofs.Common.{◌≡◌, ℕ, ◌<◌, ◌≤◌, true, List, [], ◌∷◌, get_or, Ok, Err, Result, sym, refl, ap, ◌∙◌, subst, ap₂, arith}
+use Rattle.std.proofs.Common.{◌≡◌, ℕ, ◌<◌, ◌≤◌, List, [], ◌∷◌, get_or, Ok, Err, Result, refl, ap, ◌∙◌, subst, ap₂, arith}
 use Rattle.std.proofs.lemmas.Bool.{ltb-true}
-use Rattle.plex.specs.Sets.{Set, Agreement, card, none, below, Within}
+use Rattle.plex.specs.Sets.{Set, card, none, below, Within}
 use Rattle.plex.specs.Meaning.{Meaning}
 use Rattle.plex.proofs.Count.{card_beyond}
 use Rattle.marks.specs.declared.set.MarkSet.{MarkSet}

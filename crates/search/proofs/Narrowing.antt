@@ -1,11 +1,10 @@
 -- Code counts over 128 marks, the definitions over those of the sheet: for sets within the sheet it is the same.
-use Rattle.std.proofs.Common.{◌≡◌, ℕ, ◌+◌, ◌<◌, ◌≤◌, Bool, true, false, not, ◌&&◌, ◌||◌, eqb, ◌⊎◌, sym, refl, ap, ◌∙◌, subst, ap₂, inl, inr, arith}
+use Rattle.std.proofs.Common.{◌≡◌, ℕ, ◌+◌, ◌<◌, ◌≤◌, ◌&&◌, eqb, sym, ap, ◌∙◌, subst, inl, inr, arith}
 use mathlib.Core.Path.{fun_ext}
 use Rattle.std.proofs.lemmas.Bool.Decides.{nat_tests}
 use Rattle.std.proofs.lemmas.Bool.{and_parts, or_cases}
-use Rattle.plex.specs.Sets.{Set, Agreement, card, only, ◌∩◌, ◌∪◌, ◌∖◌, ◌⊆◌, Kplex, Within}
+use Rattle.plex.specs.Sets.{Set, Agreement, card, only, ◌∩◌, ◌∪◌, ◌∖◌, Kplex, Within}
 use Rattle.plex.proofs.Count.{card_beyond}
-use Rattle.ceiling.specs.Formulas.{misses}
 use Rattle.searching.specs.First.{agreements_inside}
 use Rattle.searching.specs.Trimming.{Fits, Trimmed}
 use Rattle.searching.specs.Steps.{Most, tight, SplitMark}

@@ -1,7 +1,7 @@
 -- An offered list, judged over 128 marks, is judged as the definition says.
-use Rattle.std.proofs.Common.{◌≡◌, ℕ, ◌<◌, ◌≤◌, min, Bool, true, false, List, length, sym, ap, ◌∙◌, subst, arith}
+use Rattle.std.proofs.Common.{◌≡◌, ℕ, ◌≤◌, min, true, false, List, sym, ap, ◌∙◌, subst, arith}
 use Rattle.std.proofs.lemmas.Bool.{both_ways}
-use Rattle.plex.specs.Sets.{Set, Agreement, card, Kplex, Within, is_kplex_lem, among}
+use Rattle.plex.specs.Sets.{Agreement, card, Kplex, Within, is_kplex_lem, among}
 use Rattle.plex.proofs.Decide.{kplex_decides}
 use Rattle.marks.specs.declared.set.MarkSet.{MarkSet}
 use Rattle.marks.specs.Members.{members}

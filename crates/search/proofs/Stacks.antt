@@ -1,8 +1,8 @@
 -- The tests of a table of branches hold just where the branches that they mean are well formed.
-use Rattle.std.proofs.Common.{◌≡◌, ℕ, zero, suc, ◌+◌, ◌<◌, ◌≤◌, Bool, true, false, not, ◌&&◌, ◌||◌, ltb, leb, ◌⊎◌, List, [], ◌∷◌, sym, refl, ap, ◌∙◌, subst, inl, inr, arith}
+use Rattle.std.proofs.Common.{◌≡◌, ℕ, zero, suc, ◌+◌, ◌<◌, ◌≤◌, Bool, true, false, not, ◌&&◌, ◌||◌, ltb, leb, ◌⊎◌, List, sym, ap, subst, inl, inr, arith}
 use Rattle.std.proofs.lemmas.Bool.Decides.{nat_tests}
-use Rattle.std.proofs.lemmas.Bool.{cases_lt, cases_eq, cases_Bool, or_cases, leb-true, le-leb, lt-ltb}
-use Rattle.plex.specs.Sets.{Set, Agreement, card, Kplex, Within, is_kplex_lem}
+use Rattle.std.proofs.lemmas.Bool.{cases_lt, cases_eq, or_cases, leb-true, le-leb}
+use Rattle.plex.specs.Sets.{card, Within, is_kplex_lem}
 use Rattle.plex.specs.Words.{holds}
 use Rattle.plex.proofs.Decide.{kplex_decides}
 use Rattle.tables.specs.Bits.{bit_agrees}

@@ -1,8 +1,8 @@
 -- What a step leaves in the table is what the definition of a step says.
-use Rattle.std.proofs.Common.{◌≡◌, ℕ, zero, suc, ◌+◌, ◌<◌, ◌≤◌, Bool, true, false, not, ◌&&◌, ◌||◌, ◌⊎◌, List, [], ◌∷◌, length, get_or, set, Some, None, Option, sym, refl, ap, ◌∙◌, subst, ap₂, inl, inr, arith}
-use Rattle.std.proofs.lemmas.List.{get_or-set_same, get_or-set_other}
+use Rattle.std.proofs.Common.{◌≡◌, ℕ, zero, suc, ◌+◌, ◌<◌, ◌≤◌, true, false, List, ◌∷◌, set, Some, None, Option, refl, subst, ap₂, inl, inr, arith}
+use Rattle.std.proofs.lemmas.List.{get_or-set_other}
 use Rattle.std.proofs.lemmas.Bool.{both_ways, or_cases}
-use Rattle.plex.specs.Sets.{Set, Agreement, card, only, ◌∪◌, ◌∖◌, Kplex, Within, is_kplex_lem}
+use Rattle.plex.specs.Sets.{Set, card, only, ◌∪◌, ◌∖◌, Within, is_kplex_lem}
 use Rattle.plex.specs.Words.{holds}
 use Rattle.plex.proofs.Count.{heredity, card_none}
 use Rattle.plex.proofs.Decide.{kplex_decides}

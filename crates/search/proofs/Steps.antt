@@ -1,5 +1,5 @@
 -- A step on a search's own table of branches.
-use Rattle.std.proofs.Common.{◌≡◌, ℕ, zero, suc, ◌+◌, ◌-◌, ◌<◌, ◌≤◌, List, [], ◌∷◌, length, get_or, set, sym, refl, ap, ◌∙◌, subst, ap₂, arith}
+use Rattle.std.proofs.Common.{◌≡◌, ℕ, suc, ◌+◌, ◌-◌, ◌<◌, ◌≤◌, List, ◌∷◌, length, get_or, set, sym, refl, ap, ◌∙◌, subst, ap₂, arith}
 use Rattle.std.proofs.lemmas.List.{get_or-set_same, get_or-set_other, length-set}
 use Rattle.plex.specs.Sets.{Set, card, only, ◌∪◌, ◌∖◌, Within}
 use Rattle.plex.specs.Words.{holds}
@@ -8,7 +8,6 @@ use Rattle.tables.specs.Meanings.{bit_meaning}
 use Rattle.held.specs.Groups.{held_set}
 use Rattle.branch.specs.declared.branches.Branch.{Branch}
 use Rattle.searching.specs.States.{State, branch, moved, capped}
-use Rattle.searching.specs.States as states
 use Rattle.searching.specs.Trimming.{Trimmed}
 use Rattle.searching.specs.Steps.{Stepped}
 use Rattle.searching.proofs.Branches.{stacked_few}
@@ -21,7 +20,7 @@ use Rattle.search.specs.View.{opened, view}
 use Rattle.search.specs.Outcomes.{FallsOut}
 use Rattle.search.proofs.View.{formed}
 use Rattle.search.proofs.Telling.{held_within, opened_length}
-use Rattle.search.proofs.Stepping.{opened_set, within_both, closed, took, parted, split_small, written_so, Passes, passes}
+use Rattle.search.proofs.Stepping.{opened_set, within_both, closed, took, parted, split_small, written_so}
 
 module _ {R : Type 0} (number : R → Number) (me : Search R) (some : 0 < me.count) (long : length me.branches ≡ 129) (few : me.count ≤ 129) (h : ℕ)
     (size : h ≡ card 128 (held_set me.held)) (trim : Branch) (same : trim.chosen ≡ (get_or me.branches (me.count - 1) no_branch).chosen)

@@ -1,6 +1,5 @@
 -- Every search is well formed, by what its type says; and what is well formed passes the tests of the type.
-use Rattle.std.proofs.Common.{◌≡◌, ℕ, ◌≤◌, refl, le_refl}
-use Rattle.plex.specs.Sets.{card}
+use Rattle.std.proofs.Common.{refl, le_refl}
 use Rattle.ceiling.specs.Rules.{Number}
 use Rattle.searching.specs.Sound.{Formed}
 use Rattle.search.specs.declared.searches.Search.{Search}

@@ -1,5 +1,5 @@
 -- What making a search answers, and what it leaves. Assumes nothing.
-use Rattle.std.specs.Prelude.{◌≡◌, ℕ, ◌+◌, ◌-◌, ◌^◌, ◌<◌, ◌≤◌, List, length, Ok, Err, Result}
+use Rattle.std.specs.Prelude.{◌≡◌, ℕ, ◌+◌, ◌-◌, ◌^◌, ◌<◌, ◌≤◌, List, Ok, Err, Result}
 use Rattle.plex.specs.Meaning.{Meaning}
 use Rattle.coprune.specs.Answers.{pair_places_lem, MayHoldAnything}
 use Rattle.ceiling.specs.Rules.{Number}

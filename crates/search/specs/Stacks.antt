@@ -1,5 +1,5 @@
 -- The open branches as they stand in a table, the newest last, and what holds of them. Each test is false in every search. Assumes nothing.
-use Rattle.std.specs.Prelude.{ℕ, zero, suc, ◌+◌, Bool, not, ◌&&◌, ◌||◌, List, [], nat_le, nat_lt, slice_index_or}
+use Rattle.std.specs.Prelude.{ℕ, ◌+◌, Bool, not, ◌&&◌, ◌||◌, List, [], nat_le, nat_lt, slice_index_or}
 use Rattle.plex.specs.Sets.{Set, card, is_kplex_lem}
 use Rattle.plex.specs.Words.{holds}
 use Rattle.tables.specs.Bits.{bit_agrees}

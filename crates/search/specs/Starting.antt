@@ -1,5 +1,5 @@
 -- What a search starts with. Assumes nothing.
-use Rattle.std.specs.Prelude.{◌≡◌, ℕ, ◌<◌, ◌≤◌}
+use Rattle.std.specs.Prelude.{◌≡◌, ℕ, ◌≤◌}
 use Rattle.plex.specs.Meaning.{Meaning}
 use Rattle.ceiling.specs.Rules.{Number}
 use Rattle.tables.specs.Meanings.{bit_meaning}

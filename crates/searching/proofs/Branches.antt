@@ -1,5 +1,5 @@
 -- Open branches: how many there can be, what a larger group changes, the steps that they can take.
-use Rattle.std.proofs.Common.{◌≡◌, ℕ, zero, suc, ◌+◌, ◌-◌, ◌*◌, ◌^◌, ◌≤◌, true, false, List, [], ◌∷◌, length, refl, ap, inl, inr, pow-suc, one-add, arith}
+use Rattle.std.proofs.Common.{◌≡◌, ℕ, zero, suc, ◌+◌, ◌*◌, ◌^◌, ◌≤◌, true, false, List, [], ◌∷◌, length, refl, ap, inl, inr, pow-suc, one-add, arith}
 use Rattle.plex.specs.Sets.{Set, Agreement, TwoWay, NoSelf, card, ◌∩◌, Kplex, Within}
 use Rattle.plex.proofs.Count.{card_le, card_beyond, heredity}
 use Rattle.ceiling.specs.Rules.{Number, reply, Between, Lawful}

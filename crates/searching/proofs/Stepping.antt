@@ -1,5 +1,5 @@
 -- From a well-formed search that is not settled there is one step.
-use Rattle.std.proofs.Common.{◌≡◌, ℕ, ◌+◌, ◌-◌, Bool, true, false, leb, List, [], ◌∷◌, Some, None, Option, sym, refl, ap, ◌∙◌, subst, ap₂, inl, inr, arith}
+use Rattle.std.proofs.Common.{◌≡◌, ℕ, ◌+◌, Bool, true, false, leb, List, [], ◌∷◌, Some, None, Option, sym, refl, ap, ◌∙◌, subst, ap₂, inl, inr, arith}
 use Rattle.std.proofs.lemmas.Bool.{cases_Bool, leb-true, le-leb, or_cases, or_left, or_right, true≢false}
 use Rattle.plex.specs.Sets.{Set, card, ◌∪◌, Within, is_kplex_lem}
 use Rattle.plex.proofs.Count.{card_le, card_none, heredity}

@@ -1,5 +1,5 @@
 -- The bits of rows: where they stand, and what setting one does.
-use Rattle.std.proofs.Common.{◌≡◌, ℕ, zero, suc, ◌+◌, ◌*◌, ◌/◌, ◌%◌, ◌^◌, ◌<◌, ◌≤◌, Bool, true, false, cond, ◌&&◌, ◌||◌, eqb, ltb, leb, ◌⊎◌, List, ◌++◌, length, get_or, take, drop, set, replicate, sym, refl, ap, ◌∙◌, ap₂, inl, inr, mul-le-mul_right, add-mul, one-mul, pow-suc, arith, length-set, length-take}
+use Rattle.std.proofs.Common.{◌≡◌, ℕ, zero, suc, ◌+◌, ◌*◌, ◌/◌, ◌%◌, ◌^◌, ◌<◌, ◌≤◌, Bool, true, false, ◌&&◌, ◌||◌, eqb, List, ◌++◌, length, get_or, take, drop, set, replicate, sym, ap, ◌∙◌, ap₂, inl, inr, mul-le-mul_right, add-mul, one-mul, pow-suc, arith, length-take}
 use lib.Bits.{bit_or, or_step, or_zero_r}
 use lib.ListN.{length-replicate}
 use Rattle.std.proofs.lemmas.Nat.{div-mul-add}

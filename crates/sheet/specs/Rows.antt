@@ -1,5 +1,5 @@
 -- Rows of bits in a caller's words. Assumes nothing.
-use Rattle.std.specs.Prelude.{ℕ, ◌+◌, ◌*◌, ◌/◌, ◌%◌, ◌^◌, ◌≤◌, Bool, cond, ◌&&◌, List, take, drop, set, bit_or, nat_le, slice_index, slice_set}
+use Rattle.std.specs.Prelude.{ℕ, ◌+◌, ◌*◌, ◌/◌, ◌%◌, ◌^◌, ◌≤◌, cond, ◌&&◌, List, take, drop, bit_or, nat_le, slice_index, slice_set}
 use Rattle.plex.specs.Sets.{Agreement}
 use Rattle.plex.specs.Words.{holds}
 

@@ -1,6 +1,5 @@
-use Rattle.std.proofs.Common.{◌≡◌, Bool, true, false, sym, refl, ap, ◌∙◌, subst}
+use Rattle.std.proofs.Common.{Bool, refl, ap, ◌∙◌, subst}
 use Rattle.std.proofs.lemmas.Bool.{true≢false}
-use Rattle.plex.specs.Meaning.{Meaning}
 use Rattle.marks.specs.Members.{members}
 use Rattle.coprune.specs.Coprune.{Looks}
 use Rattle.coprune.proofs.Looking.{looked_none, looked_struck, looked_fine, looked_all}

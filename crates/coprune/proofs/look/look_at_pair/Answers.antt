@@ -1,4 +1,4 @@
-use Rattle.std.proofs.Common.{◌≡◌, true, ◌&&◌, sym, refl, ap, ◌∙◌, ap₂, rules}
+use Rattle.std.proofs.Common.{◌≡◌, true, sym, ◌∙◌}
 use Rattle.std.proofs.lemmas.Bool.{and_from, true≢false}
 use Rattle.coprune.specs.Coprune.{bad}
 use Rattle.coprune.proofs.Wearing.{wears_struck, fewer_struck}

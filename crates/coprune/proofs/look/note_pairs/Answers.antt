@@ -1,4 +1,3 @@
-use Rattle.std.proofs.Common.{◌<◌}
 use Rattle.marks.proofs.Lowering.{fewer_without}
 use Rattle.coprune.proofs.look.note_pairs.Goals as goal
 

@@ -1,11 +1,4 @@
-use Rattle.std.proofs.Common.{◌≡◌, ℕ, ◌<◌, true, false, ◌&&◌, sym, refl, ap, ◌∙◌, subst, arith}
-use Rattle.std.proofs.lemmas.Bool.{and_cases, true≢false}
-use Rattle.plex.specs.Sets.{Agreement}
-use Rattle.plex.specs.Meaning.{Meaning}
-use Rattle.pruning.specs.Pruned.{Largest, offends}
-use Rattle.pruning.proofs.Keeping.{largest_at_end}
-use Rattle.coprune.specs.Coprune.{Wears, Sweeps, bad, at_ends}
-use Rattle.plex.proofs.Within.{two_way}
+use Rattle.std.proofs.Common.{refl, ◌∙◌, arith}
 use Rattle.coprune.proofs.Wearing.{wears_self, wears_on, wears_fewer}
 use Rattle.coprune.proofs.Ending.{ends_largest}
 use Rattle.coprune.proofs.prune.strike_all.Goals as goal

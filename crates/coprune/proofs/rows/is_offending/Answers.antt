@@ -1,4 +1,4 @@
-use Rattle.std.proofs.Common.{◌≡◌, ◌||◌, ltb, ap, ◌∙◌, ap₂}
+use Rattle.std.proofs.Common.{◌||◌, ltb, ap, ◌∙◌, ap₂}
 use Rattle.plex.specs.Sets.{card, ◌∩◌}
 use Rattle.plex.proofs.Within.{shared_count}
 use Rattle.coprune.proofs.rows.is_offending.Goals as goal

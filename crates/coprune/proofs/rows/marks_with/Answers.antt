@@ -1,6 +1,6 @@
-use Rattle.std.proofs.Common.{◌≡◌, ◌<◌, ◌≤◌, ◌&&◌, ltb, leb, sym, ap, ◌∙◌, ap₂, arith}
+use Rattle.std.proofs.Common.{◌<◌, ◌≤◌, ltb, sym, ap, ◌∙◌, arith}
 use Rattle.std.proofs.lemmas.Bool.{lt-ltb, ltb-true, le-leb, lt-leb, and_from, and_right, and_parts}
-use Rattle.plex.specs.Sets.{card, only, below, ◌∩◌, ◌∪◌}
+use Rattle.plex.specs.Sets.{card, only, ◌∪◌}
 use Rattle.plex.proofs.Below.{below_none, below_takes, below_skips, below_all}
 use Rattle.marks.specs.Members.{members}
 use Rattle.pruning.specs.Pruned.{left_marks}

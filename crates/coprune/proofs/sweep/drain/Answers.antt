@@ -1,4 +1,4 @@
-use Rattle.std.proofs.Common.{◌≡◌, refl, ◌∙◌}
+use Rattle.std.proofs.Common.{refl, ◌∙◌}
 use Rattle.coprune.proofs.Wearing.{wears_self, wears_on}
 use Rattle.coprune.proofs.sweep.drain.Goals as goal
 

@@ -1,11 +1,11 @@
-use Rattle.std.proofs.Common.{◌≡◌, ℕ, ◌+◌, ◌<◌, ◌≤◌, Bool, true, false, ◌⊎◌, length, sym, refl, ap, ◌∙◌, ap₂, inl, inr, arith}
+use Rattle.std.proofs.Common.{◌≡◌, ℕ, ◌+◌, ◌<◌, ◌≤◌, Bool, true, false, length, ap, ◌∙◌, ap₂, inl, inr, arith}
 use Rattle.std.proofs.lemmas.Bool.{cases_Bool, true≢false}
 use Rattle.queue.specs.declared.ring.Queue.{Queue}
 use Rattle.queue.specs.Waits.{held, waiting}
 use Rattle.queue.proofs.Lengths.{waiting_fits}
 use Rattle.plex.specs.Meaning.{Meaning}
 use Rattle.pruning.proofs.Keeping.{work_falls}
-use Rattle.coprune.specs.Coprune.{Wears, at_ends, work}
+use Rattle.coprune.specs.Coprune.{at_ends, work}
 use Rattle.coprune.proofs.Wearing.{wears_fewer}
 use Rattle.coprune.proofs.sweep.look_at_next.Goals as goal
 

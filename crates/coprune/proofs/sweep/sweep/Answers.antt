@@ -1,6 +1,6 @@
-use Rattle.std.proofs.Common.{◌≡◌, ◌+◌, ◌<◌, ◌≤◌, Bool, true, false, sym, refl, ap, ◌∙◌, subst, ap₂, arith}
+use Rattle.std.proofs.Common.{◌+◌, ◌<◌, ◌≤◌, Bool, sym, refl, ap, ◌∙◌, subst, ap₂, arith}
 use Rattle.std.proofs.lemmas.Bool.{true≢false}
-use Rattle.plex.specs.Sets.{below, only, ◌∪◌, ◌∖◌}
+use Rattle.plex.specs.Sets.{only, ◌∪◌, ◌∖◌}
 use Rattle.marks.specs.Members.{members}
 use Rattle.coprune.specs.Coprune.{LooksAmong}
 use Rattle.coprune.proofs.Counting.{seen_none, seen_more}

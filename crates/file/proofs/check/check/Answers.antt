@@ -1,4 +1,4 @@
-use Rattle.std.proofs.Common.{◌≡◌, true, Ok, refl}
+use Rattle.std.proofs.Common.{Ok, refl}
 use Rattle.fileword.specs.declared.files.Wanted.TheVariants.{Either}
 use Rattle.fileword.proofs.Verdict.{one_verdict}
 use Rattle.file.proofs.check.check.Goals as goal

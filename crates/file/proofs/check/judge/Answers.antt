@@ -1,4 +1,4 @@
-use Rattle.std.proofs.Common.{◌≡◌, ◌<◌, Ok, sym, ap, ◌∙◌, subst, arith, below_more}
+use Rattle.std.proofs.Common.{Ok, sym, ◌∙◌, subst, arith, below_more}
 use Rattle.fileword.specs.Faults.{Judged}
 use Rattle.fileword.specs.declared.files.Summary.{Summary}
 use Rattle.fileword.proofs.Verdict.{good_from_spotless}

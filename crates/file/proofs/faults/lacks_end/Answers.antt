@@ -1,4 +1,4 @@
-use Rattle.std.proofs.Common.{◌≡◌, ◌<◌, ◌≤◌, length, sym, refl, ◌∙◌, arith}
+use Rattle.std.proofs.Common.{◌≤◌, length, sym, refl, ◌∙◌, arith}
 use Rattle.file.proofs.Ends.{lacks_more, lacks_all, lacks_none}
 use Rattle.file.proofs.faults.lacks_end.Goals as goal
 

@@ -1,5 +1,5 @@
-use Rattle.std.proofs.Common.{◌≡◌, ℕ, ◌+◌, ◌<◌, ◌≤◌, min, true, sym, refl, ap, ◌∙◌, subst, ap₂, arith}
-use Rattle.plex.specs.Sets.{Set, card, only, ◌∩◌, ◌∪◌, ◌∖◌}
+use Rattle.std.proofs.Common.{◌≡◌, ◌+◌, min, ap, ◌∙◌, subst, arith}
+use Rattle.plex.specs.Sets.{card, ◌∩◌, ◌∖◌}
 use Rattle.plex.proofs.Count.{card_le}
 use Rattle.marks.specs.Members.{members}
 use Rattle.marks.proofs.Lowering.{fewer_without}

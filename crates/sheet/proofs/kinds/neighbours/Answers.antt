@@ -1,4 +1,4 @@
-use Rattle.std.proofs.Common.{◌≡◌, ap, ◌∙◌}
+use Rattle.std.proofs.Common.{ap, ◌∙◌}
 use Rattle.plex.specs.Sets.{card}
 use Rattle.plex.specs.Words.{holds}
 use Rattle.plex.proofs.Within.{row_count}

@@ -1,4 +1,4 @@
-use Rattle.std.proofs.Common.{◌≡◌, ◌%◌, ap, ◌∙◌, ap₂, arith}
+use Rattle.std.proofs.Common.{ap, ◌∙◌, ap₂, arith}
 use Rattle.plex.specs.Sets.{among}
 use Rattle.fileword.specs.Layout.{pair_word}
 use Rattle.file.proofs.Naming.{among_contains}

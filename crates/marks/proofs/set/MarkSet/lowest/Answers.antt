@@ -1,4 +1,4 @@
-use Rattle.std.proofs.Common.{◌≡◌, ◌+◌, ◌*◌, ◌≤◌, length, arith, rules, below_more}
+use Rattle.std.proofs.Common.{◌≡◌, ◌≤◌, length, arith, rules, below_more}
 use Rattle.marks.proofs.First.{zeros_all, lowest_lt, lowest_held, lowest_first}
 use Rattle.marks.proofs.set.MarkSet.lowest.Goals as goal
 

@@ -1,4 +1,4 @@
-use Rattle.std.proofs.Common.{◌≡◌, not, ◌&&◌, length, get_or, refl, ap, ◌∙◌, rules}
+use Rattle.std.proofs.Common.{◌≡◌, not, ◌&&◌, length, refl, ap, ◌∙◌, rules}
 use Rattle.plex.specs.Words.{holds}
 use Rattle.marks.proofs.Four.{each_of_four}
 use Rattle.marks.proofs.set.MarkSet.minus.Goals as goal

@@ -1,5 +1,4 @@
 use Rattle.std.proofs.Common.{◌≡◌, ◌||◌, length, get_or, refl, ap, ◌∙◌, rules}
-use lib.Bits.{bit_or}
 use Rattle.plex.specs.Words.{holds}
 use Rattle.plex.proofs.Words.{bits_of_or}
 use Rattle.marks.proofs.Four.{each_of_four}

@@ -1,5 +1,4 @@
-use Rattle.std.proofs.Common.{◌≡◌, sym, refl, ap, ◌∙◌}
-use mathlib.Core.Path.{fun_ext}
+use Rattle.std.proofs.Common.{ap, ◌∙◌}
 use Rattle.plex.specs.Sets.{◌∪◌, only}
 use Rattle.plex.specs.Words.{holds}
 use Rattle.marks.proofs.set.MarkSet.single.Goals as goal

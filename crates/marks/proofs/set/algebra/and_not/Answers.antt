@@ -1,4 +1,4 @@
-use Rattle.std.proofs.Common.{◌≡◌, ◌-◌, ◌&&◌, ap, ◌∙◌}
+use Rattle.std.proofs.Common.{◌-◌, ◌&&◌, ap, ◌∙◌}
 use Rattle.plex.specs.Words.{bits_of}
 use Rattle.plex.proofs.Words.{bits_of_and, bits_of_not}
 use Rattle.marks.proofs.set.algebra.and_not.Goals as goal

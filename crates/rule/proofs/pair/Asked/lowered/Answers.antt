@@ -1,4 +1,4 @@
-use Rattle.std.proofs.Common.{◌≡◌, ℕ, ◌+◌, ◌-◌, ◌<◌, ◌≤◌, min, get_or, sym, ap, ◌∙◌, ap₂, arith}
+use Rattle.std.proofs.Common.{◌≡◌, ℕ, ◌≤◌, min, get_or, ap, ◌∙◌, ap₂, arith}
 use Rattle.plex.specs.Sets.{card, ◌∩◌}
 use Rattle.plex.proofs.Count.{card_le}
 use Rattle.marks.specs.Members.{members}

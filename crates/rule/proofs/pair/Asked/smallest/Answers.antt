@@ -1,5 +1,5 @@
-use Rattle.std.proofs.Common.{◌≡◌, ℕ, ◌<◌, arith}
-use Rattle.plex.specs.Sets.{card, ◌∩◌}
+use Rattle.std.proofs.Common.{arith}
+use Rattle.plex.specs.Sets.{◌∩◌}
 use Rattle.plex.proofs.Count.{card_le}
 use Rattle.marks.specs.Members.{members}
 use Rattle.marks.proofs.Lowering.{fewer_without}

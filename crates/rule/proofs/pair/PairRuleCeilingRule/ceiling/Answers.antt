@@ -1,4 +1,4 @@
-use Rattle.std.proofs.Common.{◌≡◌, ℕ, ◌+◌, ◌<◌, length, sym, ap, ◌∙◌, ap₂, arith, rules}
+use Rattle.std.proofs.Common.{◌≡◌, ◌+◌, ◌<◌, length, sym, ap, ◌∙◌, ap₂, arith, rules}
 use Rattle.plex.specs.Sets.{card, ◌∖◌}
 use Rattle.plex.proofs.Count.{card_le}
 use Rattle.marks.specs.Members.{members}

@@ -1,5 +1,4 @@
-use Rattle.std.proofs.Common.{◌≡◌, ℕ, ◌<◌, ◌≤◌, min, length, sym, ap, ◌∙◌, subst, arith}
-use Rattle.plex.specs.Sets.{card, among}
+use Rattle.std.proofs.Common.{◌≤◌, min, length, sym, ◌∙◌, subst, arith}
 use Rattle.tables.specs.Meanings.{bit_meaning}
 use Rattle.searching.specs.Calls.{RisingMarks}
 use Rattle.search.proofs.Telling.{held_count}

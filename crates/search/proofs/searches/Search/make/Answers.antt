@@ -1,4 +1,4 @@
-use Rattle.std.proofs.Common.{◌≡◌, ℕ, ◌+◌, ◌-◌, ◌^◌, ◌<◌, ◌≤◌, sym, refl, ap, ◌∙◌, subst, ap₂, arith}
+use Rattle.std.proofs.Common.{◌+◌, ◌-◌, ◌^◌, ◌≤◌, refl, arith}
 use Rattle.searching.proofs.Law.{the_law, law_meant}
 use Rattle.search.specs.View.{view}
 use Rattle.search.specs.Starting.{state_of}

@@ -1,4 +1,4 @@
-use Rattle.std.proofs.Common.{◌≡◌, ℕ, ◌<◌, sym, ap, ◌∙◌, subst, arith}
+use Rattle.std.proofs.Common.{◌≡◌, ◌<◌, sym, ap, ◌∙◌, subst, arith}
 use Rattle.plex.specs.Sets.{card, among, Within}
 use Rattle.plex.specs.Words.{holds}
 use Rattle.marks.specs.Members.{members}

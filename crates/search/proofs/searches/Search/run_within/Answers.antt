@@ -1,5 +1,5 @@
-use Rattle.std.proofs.Common.{◌≡◌, ℕ, ◌+◌, ◌≤◌, refl, inl, inr, arith}
-use Rattle.searching.specs.Steps.{Steps, still, onward}
+use Rattle.std.proofs.Common.{inl, inr, arith}
+use Rattle.searching.specs.Steps.{still, onward}
 use Rattle.search.proofs.searches.Search.run_within.Goals as goal
 
 pub loop-taken-init : goal.loop-taken-init

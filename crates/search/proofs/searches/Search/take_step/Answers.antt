@@ -1,4 +1,4 @@
-use Rattle.std.proofs.Common.{◌≡◌, ℕ, suc, ◌+◌, ◌-◌, ◌*◌, ◌<◌, ◌≤◌, List, [], ◌∷◌, length, get_or, set, sym, refl, ap, ◌∙◌, subst, ap₂, arith, rules}
+use Rattle.std.proofs.Common.{◌≡◌, ◌+◌, ◌-◌, length, get_or, set, sym, refl, ap, ◌∙◌, subst, ap₂, arith, rules}
 use Rattle.plex.specs.Sets.{only, ◌∪◌, ◌∖◌, Within}
 use Rattle.plex.specs.Words.{holds}
 use Rattle.marks.specs.Members.{members}

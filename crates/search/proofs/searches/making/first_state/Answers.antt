@@ -1,4 +1,4 @@
-use Rattle.std.proofs.Common.{◌≡◌, ℕ, ◌<◌, ◌≤◌, List, [], ◌∷◌, length, sym, refl, ap, ◌∙◌, subst, ap₂, arith}
+use Rattle.std.proofs.Common.{◌≡◌, ◌<◌, ◌≤◌, [], ◌∷◌, length, sym, ap, ◌∙◌, subst, ap₂, arith}
 use Rattle.plex.specs.Sets.{card, below}
 use Rattle.plex.proofs.Count.{card_le}
 use Rattle.plex.specs.Words.{holds}

@@ -1,4 +1,4 @@
-use Rattle.std.proofs.Common.{◌≡◌, ◌<◌, length, sym, refl, ap, ◌∙◌, arith, length-set}
+use Rattle.std.proofs.Common.{◌<◌, length, refl, ap, ◌∙◌, arith}
 use Rattle.sheet.specs.Rows.{row_words, bit_entered, marks_held}
 use Rattle.sheet.proofs.Entering.{entered_pair, entered_again, entered_holding, entered_behind, entered_spare}
 use Rattle.sheet.proofs.entry.Entry.enter.Goals as goal

@@ -1,7 +1,7 @@
-use Rattle.std.proofs.Common.{◌≡◌, ℕ, ◌+◌, ◌-◌, ◌*◌, ◌/◌, ◌%◌, ◌^◌, ◌<◌, ◌≤◌, length, set, sym, refl, ap, ◌∙◌, arith}
+use Rattle.std.proofs.Common.{ℕ, ◌+◌, ◌-◌, ◌*◌, ◌/◌, ◌%◌, ◌^◌, ◌<◌, ◌≤◌, length, set, refl, ap, ◌∙◌, arith}
 use lib.Bits.{bit_or}
 use borrow.Rule.Slice.PartMut.{put_mid}
-use Rattle.sheet.specs.Rows.{row_words, bit_entered}
+use Rattle.sheet.specs.Rows.{bit_entered}
 use Rattle.sheet.proofs.Parts.{part_set, part_at}
 use Rattle.sheet.proofs.Bits.{held_few, bit_in_row, row_in_words}
 use Rattle.sheet.proofs.entry.Entry.enter_bit.Goals as goal

@@ -1,4 +1,4 @@
-use Rattle.std.proofs.Common.{◌≡◌, ◌+◌, ◌*◌, ◌/◌, ◌%◌, get_or, sym, ap, ◌∙◌, arith}
+use Rattle.std.proofs.Common.{◌+◌, ◌*◌, ◌/◌, ◌%◌, get_or, sym, ap, ◌∙◌, arith}
 use Rattle.plex.proofs.Words.{bit_test}
 use Rattle.sheet.specs.Rows.{bit_of}
 use Rattle.sheet.proofs.Bits.{bit_at, bit_in_row, bit_in_words}

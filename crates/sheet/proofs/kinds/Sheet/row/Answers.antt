@@ -1,6 +1,6 @@
-use Rattle.std.proofs.Common.{◌≡◌, ◌<◌, ◌≤◌, sym, ap, ◌∙◌, inl, inr, arith}
+use Rattle.std.proofs.Common.{◌<◌, ◌≤◌, sym, ap, ◌∙◌, inl, inr, arith}
 use Rattle.std.proofs.lemmas.Bool.{cases_lt, both_ways}
-use Rattle.plex.specs.Sets.{none, only, below, ◌∩◌, ◌∪◌}
+use Rattle.plex.specs.Sets.{only, ◌∪◌}
 use Rattle.plex.specs.Words.{holds}
 use Rattle.plex.proofs.Below.{below_none, below_takes, below_skips, below_all}
 use Rattle.marks.specs.Members.{members}

@@ -1,4 +1,4 @@
-use Rattle.std.proofs.Common.{◌≡◌, ◌∷◌, sym, refl, ap, ◌∙◌, arith, rules}
+use Rattle.std.proofs.Common.{◌∷◌, sym, refl, ap, ◌∙◌, arith, rules}
 use Rattle.plex.specs.Sets.{card, rising}
 use Rattle.plex.specs.Words.{holds}
 use Rattle.plex.proofs.Count.{card_less}

@@ -1,4 +1,4 @@
-use Rattle.std.proofs.Common.{◌≡◌, ℕ, ◌-◌, ◌≤◌, min, length, take, drop, ap, ◌∙◌, ap₂, arith, rules}
+use Rattle.std.proofs.Common.{◌≡◌, ◌-◌, ◌≤◌, min, length, take, ◌∙◌, ap₂, arith, rules}
 use Rattle.plex.specs.Meaning.{agree_by}
 use Rattle.fileword.specs.Layout.{pair_word}
 use Rattle.pairing.specs.Naming.{names}
