@@ -1,6 +1,6 @@
 -- The agreement that the words of pairs give.
 use Rattle.std.proofs.Common.{◌≡◌, ℕ, ◌^◌, ◌<◌, Bool, true, false, ◌&&◌, ◌||◌, eqb, ltb, List, [], ◌∷◌, sym, refl, ◌∙◌, ap₂, arith}
-use Rattle.std.specs.List.{IsAnyAnswer, AllByRecursion as All}
+use Rattle.std.specs.List.{IsAnyAnswer, AllByRecursion}
 use Rattle.std.proofs.lemmas.List.Elements.{contains_decides}
 use Rattle.std.proofs.lemmas.Bool.Decides.{nat_tests, same_from_decides, Decides-eqb, Decides-like, Decides-by_or}
 use Rattle.plex.specs.Sets.{among}
@@ -17,7 +17,7 @@ among_contains xs x r h =
     (Decides-by_or (λ y. eqb x y) (λ y. y ≡ x) (λ ys. among ys x) (λ y. Decides-like (eqb x y) sym sym (Decides-eqb x y)) refl (λ _ _. refl) xs)
 
 -- a list of pairs of marks below n names no mark with itself, and none from n on
-named_marks : (n : ℕ) (ps : List Pair) (i j : ℕ) → All (NamesMarks n) ps → named_in ps i j ≡ true → (i < n) × (j < n) × (i ≡ j → ⊥)
+named_marks : (n : ℕ) (ps : List Pair) (i j : ℕ) → AllByRecursion (NamesMarks n) ps → named_in ps i j ≡ true → (i < n) × (j < n) × (i ≡ j → ⊥)
 named_marks n [] i j h e = absurd (absurd_bool e)
   where
     absurd_bool : false ≡ true → ⊥

@@ -1,6 +1,6 @@
 -- The words of a measured file are clean.
 use Rattle.std.proofs.Common.{◌≡◌, ℕ, zero, suc, ◌+◌, ◌-◌, ◌*◌, ◌/◌, ◌%◌, ◌^◌, ◌<◌, ◌≤◌, true, false, ◌⊎◌, List, length, get_or, sym, refl, ap, ◌∙◌, inl, inr, arith}
-use Rattle.std.specs.List.{AllByRecursion as All}
+use Rattle.std.specs.List.{AllByRecursion}
 use Rattle.std.proofs.ByRecursion.{All-get_or}
 use Rattle.std.proofs.lemmas.Bool.{cases_lt, eq-eqb, cond-true}
 use Rattle.plex.specs.Distance.{Sighting}
@@ -18,7 +18,7 @@ use Rattle.fileword.proofs.Heads.{head_unspoilt, head_in_range, same_summary}
 use Rattle.fileword.proofs.MeasuredWords.{length_measured_file, measured_file_mark, measured_file_end}
 
 module _ (n k t : ℕ) (ss : List Sighting) (few : n ≤ 128) (low : 1 ≤ k) (high : k ≤ 16) (range : t < 2 ^ 28) (marks : length ss ≡ n)
-    (planned : All (λ s. OnDome s.planned) ss) (seen : All (λ s. OnDome s.seen) ss) where
+    (planned : AllByRecursion (λ s. OnDome s.planned) ss) (seen : AllByRecursion (λ s. OnDome s.seen) ss) where
   abbrev file : List ℕ
   file = measured_file n k t ss
 

@@ -1,6 +1,6 @@
 -- The words of a pair file are clean.
 use Rattle.std.proofs.Common.{◌≡◌, ℕ, zero, suc, ◌-◌, ◌/◌, ◌^◌, ◌<◌, ◌≤◌, true, false, ◌⊎◌, List, length, get_or, sym, refl, ap, ◌∙◌, inl, inr, arith}
-use Rattle.std.specs.List.{AllByRecursion as All}
+use Rattle.std.specs.List.{AllByRecursion}
 use Rattle.std.proofs.ByRecursion.{All-get_or}
 use Rattle.std.proofs.lemmas.Bool.{cases_lt, ne_eqb, eq-eqb, cond-false}
 use Rattle.fileword.specs.Layout.{kind, load, upper, lower, head_word}
@@ -17,7 +17,7 @@ use Rattle.fileword.proofs.Heads.{head_unspoilt, head_in_range, same_summary}
 use Rattle.fileword.proofs.PairWords.{word_of_pair_lem, length_pair_file, pair_file_pair, pair_file_end}
 
 module _ (n k : ℕ) (ps : List Pair) (few : n ≤ 128) (low : 1 ≤ k) (high : k ≤ 16)
-    (marks : All (NamesMarks n) ps) (rising : RisingPairs ps) where
+    (marks : AllByRecursion (NamesMarks n) ps) (rising : RisingPairs ps) where
   abbrev file : List ℕ
   file = pair_file n k ps
 

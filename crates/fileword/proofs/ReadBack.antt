@@ -1,6 +1,6 @@
 -- What was written into a file is read out of it.
 use Rattle.std.proofs.Common.{◌≡◌, ℕ, suc, ◌+◌, ◌*◌, ◌^◌, ◌<◌, min, max, false, ◌&&◌, ◌||◌, eqb, List, [], ◌∷◌, ◌++◌, map, length, get_or, refl, ap, ◌∙◌, ap₂, inl, inr, arith}
-use Rattle.std.specs.List.{AllByRecursion as All}
+use Rattle.std.specs.List.{AllByRecursion}
 use Rattle.std.proofs.ByRecursion.{All-get_or}
 use Rattle.std.proofs.lemmas.Bool.{cases_lt, ne_eqb, or_from}
 use Rattle.std.proofs.lemmas.Bool.Decides.{nat_tests}
@@ -35,7 +35,7 @@ pair_no_head a b n k g h = ne_eqb (pair_word a b) (head_word n k) (λ e. omega a
 pub pair_no_end : (a b m : ℕ) → a < 2 ^ 8 → b < 2 ^ 8 → eqb (pair_word a b) (end_word m) ≡ false
 pair_no_end a b m g h = ne_eqb (pair_word a b) (end_word m) (λ e. omega arith)
 
-pairs_among : (n m i j : ℕ) (ps : List Pair) → n < 2 ^ 8 → i < n → j < n → All (NamesMarks n) ps →
+pairs_among : (n m i j : ℕ) (ps : List Pair) → n < 2 ^ 8 → i < n → j < n → AllByRecursion (NamesMarks n) ps →
     among (map word_of_pair_lem ps ++ end_word m ∷ []) (pair_word (min i j) (max i j)) ≡ named_in ps i j
 pairs_among n m i j [] l f g h =
     or_from (eqb (pair_word (min i j) (max i j)) (end_word m)) false (pair_no_end (min i j) (max i j) m (omega arith) (omega arith)) refl

@@ -1,6 +1,6 @@
 -- Rising pairs: each step, and how many there can be.
 use Rattle.std.proofs.Common.{◌≡◌, ℕ, zero, suc, ◌+◌, ◌*◌, ◌^◌, ◌<◌, ◌≤◌, List, [], ◌∷◌, map, length, get_or, inl, inr, arith}
-use Rattle.std.specs.List.{range_with_len, AllByRecursion as All}
+use Rattle.std.specs.List.{range_with_len, AllByRecursion}
 use Rattle.fileword.specs.Files.{Pair, NamesMarks, ComesBefore, RisingPairs}
 
 -- a list made from a function of the index rises if each step does
@@ -29,13 +29,13 @@ unfolding place
 place_rises p q l (inl h) = omega arith
 place_rises p q l (inr h) = omega (arith, h.0, h.1)
 
-place_room : (n : ℕ) (p : Pair) (ps : List Pair) → n ≤ 128 → All (NamesMarks n) (p ∷ ps) → RisingPairs (p ∷ ps) →
+place_room : (n : ℕ) (p : Pair) (ps : List Pair) → n ≤ 128 → AllByRecursion (NamesMarks n) (p ∷ ps) → RisingPairs (p ∷ ps) →
     place p + suc (length ps) ≤ 2 ^ 14
 unfolding place
 place_room n p [] l m r = omega (arith, m.0.0, m.0.1)
 place_room n p (q ∷ qs) l m r =
     omega (arith, place_rises p q (omega (arith, m.0.1)) r.0, place_room n q qs l m.1 r.1)
 
-pub few_pairs : (n : ℕ) (ps : List Pair) → n ≤ 128 → All (NamesMarks n) ps → RisingPairs ps → length ps ≤ 2 ^ 14
+pub few_pairs : (n : ℕ) (ps : List Pair) → n ≤ 128 → AllByRecursion (NamesMarks n) ps → RisingPairs ps → length ps ≤ 2 ^ 14
 few_pairs n [] l m r = omega arith
 few_pairs n (p ∷ ps) l m r = omega (arith, place_room n p ps l m r)

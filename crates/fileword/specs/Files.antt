@@ -1,6 +1,6 @@
 -- What a good file is, by what it is written from. Assumes nothing.
 use Rattle.std.specs.Prelude.{◌≡◌, ℕ, ◌^◌, ◌<◌, ◌≤◌, Bool, false, ◌&&◌, ◌||◌, ◌⊎◌, List, [], ◌∷◌, ◌++◌, map, length, ℤ, pos, negsuc, ◌≤ℤ◌, ◌==◌}
-use Rattle.std.specs.List.{flat_map, AllByRecursion as All}
+use Rattle.std.specs.List.{flat_map, AllByRecursion}
 use Rattle.plex.specs.Distance.{Point, Sighting}
 use Rattle.fileword.specs.Layout.{head_word, pair_word, tolerance_word, end_word, point_words}
 use Rattle.fileword.specs.declared.files.Form.{Form}
@@ -45,7 +45,7 @@ measured_file n k tolerance ss =
 
 -- a pair file of n marks for k, written from the pairs ps
 pub record PairFile (n k : ℕ) (ps : List Pair) (ws : List ℕ) : Type 0 where
-  pub marks : All (NamesMarks n) ps
+  pub marks : AllByRecursion (NamesMarks n) ps
   pub rising : RisingPairs ps
   pub written : ws ≡ pair_file n k ps
 
@@ -53,8 +53,8 @@ pub record PairFile (n k : ℕ) (ps : List Pair) (ws : List ℕ) : Type 0 where
 pub record MeasuredFile (n k tolerance : ℕ) (ss : List Sighting) (ws : List ℕ) : Type 0 where
   pub range : tolerance < 2 ^ 28
   pub marks : length ss ≡ n
-  pub planned : All (λ s. OnDome s.planned) ss
-  pub seen : All (λ s. OnDome s.seen) ss
+  pub planned : AllByRecursion (λ s. OnDome s.planned) ss
+  pub seen : AllByRecursion (λ s. OnDome s.seen) ss
   pub written : ws ≡ measured_file n k tolerance ss
 
 abbrev pub Written : Form → ℕ → ℕ → List ℕ → Type 0

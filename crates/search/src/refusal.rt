@@ -1,6 +1,6 @@
 // Why a search is not made, and the numbers of refusals.
 ghost use Rattle.std.specs.Prelude.{◌≡◌};
-ghost use Rattle.searching.specs.Calls.{number as call-number};
+ghost use Rattle.searching.specs.Calls.{number as call_number};
 ghost use Rattle.search.specs.Making.{number};
 
 use searching::refusal::SearchRefusal;
@@ -29,7 +29,7 @@ impl MakeRefusal {
 
 // The number of a call's refusal.
 pub fn number_of(refusal: SearchRefusal) -> u32
-    ensures { result ≡ call-number refusal }
+    ensures { result ≡ call_number refusal }
 {
     match refusal {
         SearchRefusal::BudgetOutOfRange => 51,

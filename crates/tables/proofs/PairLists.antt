@@ -1,7 +1,7 @@
 -- The list of the words of all pairs: how long it is, that it rises, and what is among it.
 use Rattle.std.proofs.Common.{◌≡◌, ℕ, zero, suc, ◌+◌, ◌-◌, ◌*◌, ◌^◌, ◌<◌, ◌≤◌, Bool, true, false, not, ◌&&◌, ◌||◌, ltb, List, [], ◌∷◌, ◌++◌, map, length, get_or, sym, refl, ap, ◌∙◌, ap₂, inl, inr, append_assoc, append-nil, add-one, arith, length-append}
 use mathlib.Core.List.{map-append}
-use Rattle.std.specs.List.{AllByRecursion as All}
+use Rattle.std.specs.List.{AllByRecursion}
 use Rattle.std.proofs.ByRecursion.{All-get_or, All-from_get_or, All-append, All-weaker}
 use Rattle.std.proofs.lemmas.List.{length-map, get_or-map, get_or_append_left, get_or-append_right}
 use Rattle.std.proofs.lemmas.Bool.{cases_lt, or_left, or_right}
@@ -43,7 +43,7 @@ pub record PairOf (r : Agreement) (i m n w : ℕ) : Type 0 where
 taken : (a b : Bool) → (a && not b) ≡ true → (a ≡ true) × (b ≡ false)
 taken a b h = (grind arith, grind arith)
 
-row_good : (r : Agreement) (i n : ℕ) → i < n → n ≤ 128 → All (PairOf r i (suc i) n) (row_pairs i n (r i))
+row_good : (r : Agreement) (i n : ℕ) → i < n → n ≤ 128 → AllByRecursion (PairOf r i (suc i) n) (row_pairs i n (r i))
 row_good r i n hi few =
     All-from_get_or (PairOf r i (suc i) n) (row_pairs i n (r i)) 0 (λ p l.
     let s = r i ∖ below (i + 1) in
@@ -67,7 +67,7 @@ row_good r i n hi few =
     higher_than : (i b : ℕ) → ltb b (i + 1) ≡ false → i < b
     higher_than i b h = grind (arith, nat_tests)
 
-pub pairs_good : (r : Agreement) (m n : ℕ) → m ≤ n → n ≤ 128 → All (PairOf r 0 m n) (pairs_to m n r)
+pub pairs_good : (r : Agreement) (m n : ℕ) → m ≤ n → n ≤ 128 → AllByRecursion (PairOf r 0 m n) (pairs_to m n r)
 unfolding pairs_to
 pairs_good r zero n l few = tt
 pairs_good r (suc m) n l few =

@@ -2,7 +2,7 @@
 use Rattle.std.proofs.Common.{◌≡◌, ℕ, suc, ◌+◌, ◌%◌, ◌<◌, ◌≤◌, Bool, false, not, ◌&&◌, ◌||◌, eqb, ltb, leb, List, [], ◌∷◌, length, get_or, set, replicate, sym, refl, ap, ◌∙◌, ap₂, inl, inr, arith, length-set}
 use mathlib.Core.Path.{fun_ext}
 use lib.ListN.{length-replicate}
-use Rattle.std.specs.List.{AllByRecursion as All}
+use Rattle.std.specs.List.{AllByRecursion}
 use Rattle.std.proofs.lemmas.List.{get_or-set_same, get_or-set_other, get_or_past, get_or-replicate}
 use Rattle.std.proofs.lemmas.Bool.{cases_eq, cases_lt}
 use Rattle.std.proofs.lemmas.Bool.Decides.{nat_tests}
@@ -110,7 +110,7 @@ pub inside_test : (n i : ℕ) (b : Bool) → (n ≤ i → b ≡ false) → (leb 
 inside_test n i b h = grind (arith, nat_tests)
 
 -- rows are determined by the marks that they hold
-pub rows_ext : (s t : List (List ℕ)) → length s ≡ length t → All (λ ws. (length ws ≡ 4) × Words ws) s → All (λ ws. (length ws ≡ 4) × Words ws) t →
+pub rows_ext : (s t : List (List ℕ)) → length s ≡ length t → AllByRecursion (λ ws. (length ws ≡ 4) × Words ws) s → AllByRecursion (λ ws. (length ws ≡ 4) × Words ws) t →
     ((i j : ℕ) → bit_agrees s i j ≡ bit_agrees t i j) → s ≡ t
 rows_ext [] [] l a b h = refl
 rows_ext [] (v ∷ vs) l a b h = absurd (omega arith)

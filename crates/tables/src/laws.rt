@@ -1,8 +1,8 @@
 // The laws of the tables: each function's contract is a theorem.
 ghost use Rattle.std.specs.Prelude.{◌≡◌};
-ghost use Rattle.tables.specs.contracts.bits.questions.BitTableSheet.TheImpl.{ghosts as bit-table};
-ghost use Rattle.tables.specs.contracts.pairs.questions.PairTableSheet.TheImpl.{ghosts as pair-table};
-ghost use Rattle.tables.specs.contracts.pairs.questions.PairTableStrike.TheImpl.{ghosts as struck-pairs};
+ghost use Rattle.tables.specs.contracts.bits.questions.BitTableSheet.TheImpl.{ghosts as bit_table};
+ghost use Rattle.tables.specs.contracts.pairs.questions.PairTableSheet.TheImpl.{ghosts as pair_table};
+ghost use Rattle.tables.specs.contracts.pairs.questions.PairTableStrike.TheImpl.{ghosts as struck_pairs};
 ghost use Rattle.tables.specs.declared.bits.BitTable.{BitTable};
 ghost use Rattle.tables.specs.declared.pairs.PairTable.{PairTable};
 ghost use Rattle.tables.specs.Meanings.{bit_meaning, pair_table_meaning, loads};
@@ -20,10 +20,10 @@ pub fn pairs_follow()
 
 // A bit table means what its copying says that it means.
 pub fn bit_table_means()
-    ensures { (t : BitTable) → bit-table.meaning t ≡ bit_meaning t }
+    ensures { (t : BitTable) → bit_table.meaning t ≡ bit_meaning t }
 {}
 
 // A pair table means what its copying says that it means, and striking keeps its loads.
 pub fn pair_table_means()
-    ensures { (t : PairTable) → (pair-table.meaning t ≡ pair_table_meaning t) × (struck-pairs.lasting t ≡ loads t) }
+    ensures { (t : PairTable) → (pair_table.meaning t ≡ pair_table_meaning t) × (struck_pairs.lasting t ≡ loads t) }
 {}

@@ -2,7 +2,7 @@
 ghost use Rattle.std.specs.Prelude.{◌≡◌, ◌+◌};
 ghost use Rattle.plex.specs.Sets.{card};
 ghost use Rattle.plex.specs.Words.{holds};
-ghost use Rattle.searching.specs.Calls.{Does, Report, Tally as Tally-call, CopyOut};
+ghost use Rattle.searching.specs.Calls.{Does, Report, Tally as TallyCall, CopyOut};
 ghost use Rattle.searching.specs.States.{capped};
 ghost use Rattle.search.specs.View.{view};
 
@@ -50,7 +50,7 @@ impl<R: CeilingRule> Search<R> {
 
     // The steps taken, how many are left, and whether the search is settled.
     pub fn tally(&self) -> Tally
-        ensures { Does (view R.CeilingRule.number self.now) Tally-call result (view R.CeilingRule.number self.now) }
+        ensures { Does (view R.CeilingRule.number self.now) TallyCall result (view R.CeilingRule.number self.now) }
     {
         let mut left = 0;
         for at in 0..self.count {
