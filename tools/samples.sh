@@ -1,9 +1,9 @@
 #!/usr/bin/env bash
 # Runs the program on every sample file, and on the largest file and one byte more, and compares what it prints.
-# What is printed of samples/NAME.words stands in samples/NAME.page. Run it after `rt check` or `rt ci`.
+# What is printed of samples/NAME.words stands in samples/NAME.page. Run it after `rt ci`, which builds the program.
 set -u
 root=$(cd "$(dirname "$0")/.." && pwd)
-align=$root/target/bin/align
+align=$root/crates/align/out/align
 tried=0
 failed=0
 
