@@ -7,10 +7,10 @@ use Rattle.coprune.specs.Coprune.{Wears, at_ends, bad, Looks, LooksAmong}
 use Rattle.coprune.proofs.Wearing.{wears_self, wears_on, wears_fewer}
 
 -- those of the others that are not in the rest were looked at
-pub record Looked (a b : ℕ) (m : Meaning) (i : ℕ) (others rest : Set) (was-struck : Bool) (m' : Meaning) : Type 0 where
+pub record Looked (a b : ℕ) (m : Meaning) (i : ℕ) (others rest : Set) (was_struck : Bool) (m' : Meaning) : Type 0 where
   pub wears : Wears a b m m'
-  pub fewer : was-struck ≡ true → at_ends m' < at_ends m
-  pub fine : was-struck ≡ false → (j : ℕ) → others j ≡ true → (rest j ≡ true) ⊎ (bad a b m i j ≡ false)
+  pub fewer : was_struck ≡ true → at_ends m' < at_ends m
+  pub fine : was_struck ≡ false → (j : ℕ) → others j ≡ true → (rest j ≡ true) ⊎ (bad a b m i j ≡ false)
 
 pub looked_none : (a b : ℕ) (m : Meaning) (i : ℕ) (others : Set) → Looked a b m i others others false m
 looked_none a b m i others = record { wears = wears_self a b m; fewer = λ e. absurd (false≢true e); fine = λ _ j t. inl t }

@@ -8,10 +8,10 @@ use Rattle.coprune.specs.Coprune.{Wears, at_ends, bad, LooksAmong, Sweeps}
 use Rattle.coprune.proofs.Wearing.{wears_self, wears_on, wears_fewer}
 
 -- the agreements whose lower mark is below i were looked at
-pub record Swept (a b : ℕ) (m : Meaning) (i : ℕ) (was-struck : Bool) (m' : Meaning) : Type 0 where
+pub record Swept (a b : ℕ) (m : Meaning) (i : ℕ) (was_struck : Bool) (m' : Meaning) : Type 0 where
   pub wears : Wears a b m m'
-  pub fewer : was-struck ≡ true → at_ends m' < at_ends m
-  pub fine : was-struck ≡ false → (p q : ℕ) → p < i → p < q → bad a b m p q ≡ false
+  pub fewer : was_struck ≡ true → at_ends m' < at_ends m
+  pub fine : was_struck ≡ false → (p q : ℕ) → p < i → p < q → bad a b m p q ≡ false
 
 pub swept_none : (a b : ℕ) (m : Meaning) → Swept a b m 0 false m
 swept_none a b m = record { wears = wears_self a b m; fewer = λ e. absurd (false≢true e); fine = λ _ p q h. absurd (omega arith) }

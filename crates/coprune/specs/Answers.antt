@@ -19,10 +19,10 @@ pair_places_lem m = agreements m.marks m.agrees
 
 -- under which condition co-pruning the sheet m with k and floor f, in so many places for marks and for pairs, is refused
 abbrev pub Refuses : Meaning → ℕ → ℕ → ℕ → ℕ → PruneRefusal → Type 0
-Refuses m k f mark-room pair-room KOutOfRange = 1 ≤ k → k ≤ 16 → ⊥
-Refuses m k f mark-room pair-room TooFewMarkPlaces = (1 ≤ k) × (k ≤ 16) × (mark-room < m.marks)
-Refuses m k f mark-room pair-room TooFewPairPlaces = (1 ≤ k) × (k ≤ 16) × (m.marks ≤ mark-room) × (pair-room < pair_places_lem m)
-Refuses m k f mark-room pair-room FloorTooHigh = (1 ≤ k) × (k ≤ 16) × (m.marks ≤ mark-room) × (pair_places_lem m ≤ pair-room) × (128 < f)
+Refuses m k f mark_room pair_room KOutOfRange = 1 ≤ k → k ≤ 16 → ⊥
+Refuses m k f mark_room pair_room TooFewMarkPlaces = (1 ≤ k) × (k ≤ 16) × (mark_room < m.marks)
+Refuses m k f mark_room pair_room TooFewPairPlaces = (1 ≤ k) × (k ≤ 16) × (m.marks ≤ mark_room) × (pair_room < pair_places_lem m)
+Refuses m k f mark_room pair_room FloorTooHigh = (1 ≤ k) × (k ≤ 16) × (m.marks ≤ mark_room) × (pair_places_lem m ≤ pair_room) × (128 < f)
 
 -- what remains is the largest set of agreements of the sheet in which both ends of each have at least f + 1 - k agreements and
 -- share at least f + 1 - 2k marks; the marks left are those with at least f + 1 - k of them
@@ -31,18 +31,18 @@ pub record Remains (m : Meaning) (k f : ℕ) (m' : Meaning) (left : Set) : Type 
   pub largest : Largest m.marks (ends_needed k f) (shared_needed k f) m.agrees m'.agrees
   pub those : left ≡ left_marks m.marks (ends_needed k f) m'.agrees
 
-pub record Accepts (m : Meaning) (k f mark-room pair-room v : ℕ) (m' : Meaning) (left : Set) : Type 0 where
+pub record Accepts (m : Meaning) (k f mark_room pair_room v : ℕ) (m' : Meaning) (left : Set) : Type 0 where
   pub low : 1 ≤ k
   pub high : k ≤ 16
-  pub marks : m.marks ≤ mark-room
-  pub pairs : pair_places_lem m ≤ pair-room
+  pub marks : m.marks ≤ mark_room
+  pub pairs : pair_places_lem m ≤ pair_room
   pub floor : f ≤ 128
   pub answer : v ≡ 0
   pub remains : Remains m k f m' left
 
 abbrev pub CoPrunes : Meaning → ℕ → ℕ → ℕ → ℕ → Result ℕ PruneRefusal → Meaning → Set → Type 0
-CoPrunes m k f mark-room pair-room (Ok v) m' left = Accepts m k f mark-room pair-room v m' left
-CoPrunes m k f mark-room pair-room (Err e) m' left = Refuses m k f mark-room pair-room e
+CoPrunes m k f mark_room pair_room (Ok v) m' left = Accepts m k f mark_room pair_room v m' left
+CoPrunes m k f mark_room pair_room (Err e) m' left = Refuses m k f mark_room pair_room e
 
 -- the only value that may vary: what the work space holds afterwards
 abbrev pub MayHoldAnything : {T : Type 0} → List T → Type 0

@@ -19,22 +19,22 @@ abbrev pub bad : ℕ → ℕ → Meaning → ℕ → ℕ → Bool
 bad a b m i j = m.agrees i j && offends m.marks a b m.agrees i j
 
 -- the agreement of i and j was looked at, and struck if it may not stay
-pub record Looks (a b : ℕ) (m : Meaning) (i j : ℕ) (was-struck : Bool) (m' : Meaning) : Type 0 where
+pub record Looks (a b : ℕ) (m : Meaning) (i j : ℕ) (was_struck : Bool) (m' : Meaning) : Type 0 where
   pub wears : Wears a b m m'
-  pub said : was-struck ≡ bad a b m i j
-  pub fewer : was-struck ≡ true → at_ends m' < at_ends m
+  pub said : was_struck ≡ bad a b m i j
+  pub fewer : was_struck ≡ true → at_ends m' < at_ends m
 
 -- the agreements of i with the marks of a set were looked at
-pub record LooksAmong (a b : ℕ) (m : Meaning) (i : ℕ) (others : Set) (was-struck : Bool) (m' : Meaning) : Type 0 where
+pub record LooksAmong (a b : ℕ) (m : Meaning) (i : ℕ) (others : Set) (was_struck : Bool) (m' : Meaning) : Type 0 where
   pub wears : Wears a b m m'
-  pub fewer : was-struck ≡ true → at_ends m' < at_ends m
-  pub fine : was-struck ≡ false → (j : ℕ) → others j ≡ true → bad a b m i j ≡ false
+  pub fewer : was_struck ≡ true → at_ends m' < at_ends m
+  pub fine : was_struck ≡ false → (j : ℕ) → others j ≡ true → bad a b m i j ≡ false
 
 -- all agreements were looked at
-pub record Sweeps (a b : ℕ) (m : Meaning) (was-struck : Bool) (m' : Meaning) : Type 0 where
+pub record Sweeps (a b : ℕ) (m : Meaning) (was_struck : Bool) (m' : Meaning) : Type 0 where
   pub wears : Wears a b m m'
-  pub fewer : was-struck ≡ true → at_ends m' < at_ends m
-  pub fine : was-struck ≡ false → (m' ≡ m) × ((i j : ℕ) → bad a b m i j ≡ false)
+  pub fewer : was_struck ≡ true → at_ends m' < at_ends m
+  pub fine : was_struck ≡ false → (m' ≡ m) × ((i j : ℕ) → bad a b m i j ≡ false)
 
 -- what is left to do at most: either an agreement is struck, and as many may wait as there are places, or fewer wait
 abbrev pub work : {T U : Type 0} → Meaning → Queue T → Queue U → ℕ

@@ -1,5 +1,5 @@
 // What an agreement needs to stay.
-ghost use Rattle.std.specs.Prelude.{◌≡◌, ◌≤◌, ◌||◌, ltb, nat_lt};
+ghost use Rattle.std.specs.Prelude.{◌≡◌, ◌≤◌, ◌||◌, nat_lt};
 ghost use Rattle.pruning.specs.Pruned.{ends_needed, shared_needed};
 
 // How many agreements each end of an agreement needs, and how many marks the two must share.
@@ -24,7 +24,7 @@ impl Limits {
 
     // Whether one of these numbers is too low: the agreements of either end, or the marks that both share.
     pub(crate) fn unmet(self, of_i: u32, of_j: u32, both: u32) -> bool
-        ensures { result ≡ (ltb of_i self.ends || (ltb of_j self.ends || nat_lt both self.shared)) }
+        ensures { result ≡ (nat_lt of_i self.ends || (nat_lt of_j self.ends || nat_lt both self.shared)) }
     {
         of_i < self.ends || of_j < self.ends || both < self.shared
     }

@@ -1,6 +1,6 @@
 // What may be wrong with one word of a file.
 ghost use Rattle.std.specs.Prelude.{◌≡◌, ◌<◌, length};
-ghost use Rattle.fileword.specs.Faults.{at, marks_said, measured, may_begin_lem, in_measured, in_pairs, may_stand_lem, spare_set_lem, in_range_lem, comes_after_lem, pair_fits, end_load_lem, lacks_end_lem};
+ghost use Rattle.fileword.specs.Faults.{at, measured, may_begin_lem, in_measured, in_pairs, may_stand_lem, spare_set_lem, in_range_lem, comes_after_lem, pair_fits, end_load_lem, lacks_end_lem};
 ghost use Rattle.file.specs.Finding.{Finds};
 
 use fileword::files::{Fault, Wanted};

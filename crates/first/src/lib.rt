@@ -8,12 +8,11 @@ pub mod group;
 mod tests {
     use crate::group::first_group;
     use sheet::entry::Entry;
-    use std::test::Fail;
     use tables::bits::BitTable;
 
     // A ring of five marks: 0 and 1 leave.
     #[test]
-    fn pentagon(rt: HostRuntime) -> Result<(), Fail> {
+    fn pentagon(rt: HostRuntime) {
         let mut words = [0u32; 5];
         match Entry::begin(&mut words, 5) {
             Ok(mut entry) => {
@@ -23,12 +22,8 @@ mod tests {
                 let first = first_group(&BitTable::copy_of(&entry.seal()), 2);
                 assert_eq!(rt; &first.group.words(), &[0b11100u32, 0, 0, 0]);
                 assert_eq!(rt; &first.top, &4);
-                Ok(())
             }
-            Err(_) => {
-                assert!(rt; false);
-                Ok(())
-            },
+            Err(_) => assert!(rt; false),
         }
     }
 }

@@ -1,5 +1,5 @@
 // The degree rule: a k-plex has at most k marks more than any of its marks agrees with.
-ghost use Rattle.std.specs.Prelude.{◌≡◌, ◌≤◌};
+ghost use Rattle.std.specs.Prelude.{◌≤◌};
 ghost use Rattle.ceiling.specs.Formulas.{by_degree_lem};
 ghost use Rattle.marks.specs.Members.{members};
 ghost use Rattle.tables.specs.Meanings.{bit_meaning};

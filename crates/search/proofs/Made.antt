@@ -24,13 +24,13 @@ use Rattle.search.specs.Stacks.{no_branch}
 use Rattle.search.specs.View.{opened}
 
 -- co-pruning in enough space is not refused
-pub accepted : (m : Meaning) (k f mark-room pair-room : ℕ) (r : Result ℕ PruneRefusal) (m' : Meaning) (left : Set) → 1 ≤ k → k ≤ 16 →
-    m.marks ≤ mark-room → pair_places_lem m ≤ pair-room → f ≤ 128 → CoPrunes m k f mark-room pair-room r m' left → Remains m k f m' left
-accepted m k f mark-room pair-room (Ok v) m' left low high marks pairs few p = p.remains
-accepted m k f mark-room pair-room (Err KOutOfRange) m' left low high marks pairs few p = absurd (p low high)
-accepted m k f mark-room pair-room (Err TooFewMarkPlaces) m' left low high marks pairs few p = absurd (omega (arith, p.2))
-accepted m k f mark-room pair-room (Err TooFewPairPlaces) m' left low high marks pairs few p = absurd (omega (arith, p.3))
-accepted m k f mark-room pair-room (Err FloorTooHigh) m' left low high marks pairs few p = absurd (omega (arith, p.4))
+pub accepted : (m : Meaning) (k f mark_room pair_room : ℕ) (r : Result ℕ PruneRefusal) (m' : Meaning) (left : Set) → 1 ≤ k → k ≤ 16 →
+    m.marks ≤ mark_room → pair_places_lem m ≤ pair_room → f ≤ 128 → CoPrunes m k f mark_room pair_room r m' left → Remains m k f m' left
+accepted m k f mark_room pair_room (Ok v) m' left low high marks pairs few p = p.remains
+accepted m k f mark_room pair_room (Err KOutOfRange) m' left low high marks pairs few p = absurd (p low high)
+accepted m k f mark_room pair_room (Err TooFewMarkPlaces) m' left low high marks pairs few p = absurd (omega (arith, p.2))
+accepted m k f mark_room pair_room (Err TooFewPairPlaces) m' left low high marks pairs few p = absurd (omega (arith, p.3))
+accepted m k f mark_room pair_room (Err FloorTooHigh) m' left low high marks pairs few p = absurd (omega (arith, p.4))
 
 -- a table of which the first branch is open
 pub one_open : (bs : List Branch) (count : ℕ) (first : Branch) (c : Set) → count ≡ 1 → get_or bs 0 no_branch ≡ first → holds first.chosen ≡ none →

@@ -20,9 +20,9 @@ number TooFewPairPlaces = 43
 
 -- under exactly which condition making is refused, and why
 abbrev pub Refuses : Meaning → ℕ → ℕ → ℕ → MakeRefusal → Type 0
-Refuses m k mark-room pair-room KOutOfRange = 1 ≤ k → k ≤ 16 → ⊥
-Refuses m k mark-room pair-room TooFewMarkPlaces = (1 ≤ k) × (k ≤ 16) × (mark-room < m.marks)
-Refuses m k mark-room pair-room TooFewPairPlaces = (1 ≤ k) × (k ≤ 16) × (m.marks ≤ mark-room) × (pair-room < pair_places_lem m)
+Refuses m k mark_room pair_room KOutOfRange = 1 ≤ k → k ≤ 16 → ⊥
+Refuses m k mark_room pair_room TooFewMarkPlaces = (1 ≤ k) × (k ≤ 16) × (mark_room < m.marks)
+Refuses m k mark_room pair_room TooFewPairPlaces = (1 ≤ k) × (k ≤ 16) × (m.marks ≤ mark_room) × (pair_room < pair_places_lem m)
 
 -- the law, of every list of calls on the search s itself: Does says what the calls do, on what searches mean
 abbrev pub KeepsTheLaw : {R : Type 0} → (R → Number) → Meaning → ℕ → Search R → Type 0
@@ -31,18 +31,18 @@ KeepsTheLaw number m k s =
     m.marks k m.agrees (2 ^ (m.marks + 1) - 1) s
 
 -- a search on the sheet m with k and a rule, just made
-pub record Makes {R : Type 0} (number : R → Number) (m : Meaning) (k : ℕ) (rule : R) (mark-room pair-room : ℕ) (s : Search R) : Type 0 where
+pub record Makes {R : Type 0} (number : R → Number) (m : Meaning) (k : ℕ) (rule : R) (mark_room pair_room : ℕ) (s : Search R) : Type 0 where
   pub low : 1 ≤ k
   pub high : k ≤ 16
-  pub marks : m.marks ≤ mark-room
-  pub pairs : pair_places_lem m ≤ pair-room
+  pub marks : m.marks ≤ mark_room
+  pub pairs : pair_places_lem m ≤ pair_room
   pub rule_kept : s.rule ≡ rule
   pub made : Made m k (number rule) (view number s)
   pub law : KeepsTheLaw number m k s
 
 abbrev pub Making : {R : Type 0} → (R → Number) → Meaning → ℕ → R → ℕ → ℕ → Result (Search R) MakeRefusal → Type 0
-Making number m k rule mark-room pair-room (Ok s) = Makes number m k rule mark-room pair-room s
-Making number m k rule mark-room pair-room (Err e) = Refuses m k mark-room pair-room e
+Making number m k rule mark_room pair_room (Ok s) = Makes number m k rule mark_room pair_room s
+Making number m k rule mark_room pair_room (Err e) = Refuses m k mark_room pair_room e
 
 -- the work spaces are as before on a refusal, and where nothing was co-pruned; otherwise they may hold anything
 abbrev pub Spaces : {R T U : Type 0} → (R → Number) → Result (Search R) MakeRefusal → List T → List T → List U → List U → Type 0

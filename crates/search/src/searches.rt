@@ -1,5 +1,5 @@
 // A search for a largest k-plex of a sheet.
-ghost use Rattle.std.specs.Prelude.{◌≡◌, ℕ, false, not, ◌&&◌, ◌||◌, ltb, leb};
+ghost use Rattle.std.specs.Prelude.{◌≡◌, ℕ, false};
 ghost use Rattle.search.specs.Stacks.{chosen_outside, candidate_outside, in_both, too_large, out_of_order, held_outside};
 
 use branch::branches::Branch;

@@ -10,10 +10,10 @@ use Rattle.searching.proofs.Runs.{law_from_sound}
 use Rattle.searching.proofs.Making.{made_sound, made_left}
 
 -- fewer steps are enough, so more are
-more_enough : {St : Type 0} (does : St → (c : Call) → Answer c → St → Type 0) (held : St → Set) (ceiling-of : St → ℕ) (is-settled : St → Bool)
+more_enough : {St : Type 0} (does : St → (c : Call) → Answer c → St → Type 0) (held : St → Set) (ceiling_of : St → ℕ) (is_settled : St → Bool)
     (n k : ℕ) (agrees : Agreement) (enough enough' : ℕ) (paid : ℕ) (t : St) → enough ≤ enough' →
-    Keeps does held ceiling-of is-settled n k agrees enough paid t → Keeps does held ceiling-of is-settled n k agrees enough' paid t
-more_enough does held ceiling-of is-settled n k agrees enough enough' paid t l p = record {
+    Keeps does held ceiling_of is_settled n k agrees enough paid t → Keeps does held ceiling_of is_settled n k agrees enough' paid t
+more_enough does held ceiling_of is_settled n k agrees enough enough' paid t l p = record {
   plex = p.plex;
   under = p.under;
   later = p.later;

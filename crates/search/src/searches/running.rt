@@ -1,5 +1,5 @@
 // Runs of steps.
-ghost use Rattle.std.specs.Prelude.{◌≡◌, true, false, is_ok};
+ghost use Rattle.std.specs.Prelude.{◌≡◌, false, is_ok};
 ghost use Rattle.searching.specs.Calls.{Does, Run};
 ghost use Rattle.search.specs.Runs.{Runs};
 ghost use Rattle.search.specs.View.{view};

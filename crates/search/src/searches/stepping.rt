@@ -1,5 +1,5 @@
 // A step of the search.
-ghost use Rattle.std.specs.Prelude.{◌≡◌, ◌<◌};
+ghost use Rattle.std.specs.Prelude.{◌<◌};
 ghost use Rattle.plex.specs.Words.{holds};
 ghost use Rattle.tables.specs.Meanings.{bit_meaning};
 ghost use Rattle.searching.specs.Calls.{Does, Step};
