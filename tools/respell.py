@@ -1,5 +1,5 @@
 #!/usr/bin/env python3
-"""Brings this repository's own definitions and lemmas to the library's spelling, once, after port.py.
+"""Brings this repository's own definitions and lemmas to the library's spelling, once, after the toolchain's script for older repositories.
 
 Words are in snake case, types in camel case, a prime is an apostrophe: bits-of-zero becomes bits_of_zero, Two-way becomes TwoWay.
 Run it at the top of the repository. Only names that the repository's .antt files define are turned, where they stand in .antt, .rt
