@@ -11,7 +11,6 @@ import re
 import sys
 
 # New names for those that would fall together with a name that is there already.
-# A lemma or a definition that would have a function's name gets _lem, as the library's do.
 OTHERWISE = {
     "Degree-rule": "IsDegreeNumber",
     "First-group": "FirstGroupStands",
@@ -20,11 +19,11 @@ OTHERWISE = {
     "Read-back": "ReadsBack",
     "all-marks": "marks_of_both",
 }
-FUNCTIONS = """
-    accepted-when-good by-degree by-pair calls-are-exact comes-after computed-is-the-same end-load formulas-stand in-range is-kplex
-    is-measured lacks-end law-over-runs lists-rise making-is-exact may-begin may-stand offers-are-taken pair-places parts-are-plexes
-    rules-are-lawful sighted-both-ways spare-set stands-in-measured stands-in-pairs steps-for test-finds-plexes word-of-pair
-    words-combine words-hold-sets worked-examples
+# A lemma that would have a function's name gets _lem, as the library's do; a definition may share it.
+LEMMAS = """
+    accepted-when-good calls-are-exact computed-is-the-same formulas-stand is-measured law-over-runs lists-rise making-is-exact
+    offers-are-taken parts-are-plexes rules-are-lawful sighted-both-ways stands-in-measured stands-in-pairs test-finds-plexes
+    word-of-pair words-combine words-hold-sets worked-examples
 """.split()
 # Steps that the prover made, which have the name of a field.
 MADE = {("crates/search/proofs/searches/making/first_state/Answers.antt", "count-is")}
@@ -32,7 +31,6 @@ WORDS = r"(?:(?:abbrev|unfoldable|pub|record|data|ruleset)\s+)*"
 DEFINED = re.compile(r"^(\s*)(" + WORDS + r")([^\s:(){}\[\]\"]+(?:\s+[^\s:(){}\[\]\"]+)*?)\s*(?:[({].*)?:(?=\s|$)")
 # A string or a comment, a word, and what stands between words.
 TOKEN = re.compile(r"(--[ -][^\n]*|//[^\n]*|\"(?:[^\"\\]|\\.)*\")|([^\s(){}\[\],.;«»\"]+)|(.)", re.S)
-OPERATOR = re.compile(r"[◌]")
 
 
 def files(endings):
@@ -51,12 +49,12 @@ def read(path):
 def respelt(name):
     if name in OTHERWISE:
         return OTHERWISE[name]
-    if name in FUNCTIONS:
+    if name in LEMMAS:
         return name.replace("-", "_") + "_lem"
     if re.match(r"(invariant|decreases)-", name):
         return name
     name = name.replace("′", "'")
-    if "-" not in name or OPERATOR.search(name):
+    if "-" not in name or "◌" in name:
         return name
     if name[0].isupper():
         return "".join(w[0].upper() + w[1:] for w in name.split("-"))

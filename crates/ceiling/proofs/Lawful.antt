@@ -4,7 +4,7 @@ use Rattle.std.proofs.lemmas.Bool.{cases_lt, cases_Bool}
 use Rattle.plex.specs.Sets.{Set, Agreement, card, ◌∩◌, ◌∪◌, ◌∖◌, Kplex, Within}
 use Rattle.plex.proofs.Count.{card_mono, card_or, card_split}
 use Rattle.ceiling.specs.Rules.{Number, Between, Lawful, smaller}
-use Rattle.ceiling.specs.Formulas.{marks_of_both, degree_number, pair_number, applies, by_degree_lem, by_pair_lem}
+use Rattle.ceiling.specs.Formulas.{marks_of_both, degree_number, pair_number, applies, by_degree, by_pair}
 use Rattle.ceiling.specs.Laws.{RulesAreLawful}
 use Rattle.ceiling.proofs.Formulas.{applies_decides, unasked, degree_is, pair_is}
 
@@ -50,7 +50,7 @@ module _ (n k : ℕ) (a : Agreement) (s c p : Set) (w : Within n s) (q : Kplex n
   plain : (m : ℕ) → m ≡ marks_of_both n s c → under m
   plain m e = omega (arith, between_size n s c p b)
 
-  pub degree_above : under (by_degree_lem n k a s c)
+  pub degree_above : under (by_degree n k a s c)
   degree_above =
       let r = degree_is n k a s c w in
       elim (cases_Bool (applies n k a s)) [
@@ -64,7 +64,7 @@ module _ (n k : ℕ) (a : Agreement) (s c p : Set) (w : Within n s) (q : Kplex n
             ])
       ]
 
-  pub pair_above : under (by_pair_lem n k a s c)
+  pub pair_above : under (by_pair n k a s c)
   pair_above =
       let r = pair_is n k a s c w in
       elim (cases_Bool (applies n k a s)) [
@@ -78,12 +78,12 @@ module _ (n k : ℕ) (a : Agreement) (s c p : Set) (w : Within n s) (q : Kplex n
             ])
       ]
 
-pub degree_lawful : Lawful (by_degree_lem 128)
+pub degree_lawful : Lawful (by_degree 128)
 degree_lawful = record {
   above = λ k a s c _ _ _ h p q b. degree_above 128 k a s (c ∖ s) p (λ i t. (h i t).0) q (between_apart s c p b);
 }
 
-pub pair_lawful : Lawful (by_pair_lem 128)
+pub pair_lawful : Lawful (by_pair 128)
 pair_lawful = record {
   above = λ k a s c _ _ _ h p q b. pair_above 128 k a s (c ∖ s) p (λ i t. (h i t).0) q (between_apart s c p b);
 }

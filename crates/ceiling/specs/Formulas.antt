@@ -1,6 +1,6 @@
 -- The numbers of the degree rule and of the pair rule, among n marks. Assumes nothing.
 use Rattle.std.specs.Prelude.{ℕ, ◌+◌, ◌-◌, Bool, cond, ◌&&◌, Some, None, Option, nat_le}
-use Rattle.plex.specs.Sets.{Set, Agreement, card, only, ◌∩◌, ◌∪◌, ◌∖◌, is_kplex_lem}
+use Rattle.plex.specs.Sets.{Set, Agreement, card, only, ◌∩◌, ◌∪◌, ◌∖◌, is_kplex}
 use Rattle.plex.specs.Least.{least}
 use Rattle.ceiling.specs.Rules.{Number}
 
@@ -39,17 +39,17 @@ abbrev pub smallest_of_two : ℕ → Set → (ℕ → ℕ → ℕ) → ℕ → �
 smallest_of_two n s f other = smallest n s (λ u. smallest n (s ∖ only u) (f u) other) other
 
 -- k is from 1 to 16
-abbrev pub in_range_lem : ℕ → Bool
-in_range_lem k = nat_le 1 k && nat_le k 16
+abbrev pub in_range : ℕ → Bool
+in_range k = nat_le 1 k && nat_le k 16
 
 -- the rules apply to such a k, and to an s that is a k-plex
 abbrev pub applies : ℕ → ℕ → Agreement → Set → Bool
-applies n k agrees s = in_range_lem k && is_kplex_lem n k agrees s
+applies n k agrees s = in_range k && is_kplex n k agrees s
 
-unfoldable pub by_degree_lem : ℕ → Number
-by_degree_lem n k agrees s c =
+unfoldable pub by_degree : ℕ → Number
+by_degree n k agrees s c =
     cond (applies n k agrees s) (smallest n s (degree_number n k agrees s c) (marks_of_both n s c)) (marks_of_both n s c)
 
-unfoldable pub by_pair_lem : ℕ → Number
-by_pair_lem n k agrees s c =
+unfoldable pub by_pair : ℕ → Number
+by_pair n k agrees s c =
     cond (applies n k agrees s) (smallest_of_two n s (pair_number n k agrees s c) (marks_of_both n s c)) (marks_of_both n s c)

@@ -2,7 +2,7 @@
 use Rattle.std.specs.Prelude.{◌≡◌, ℕ, ◌<◌, ◌≤◌, true, ◌≢◌}
 use Rattle.plex.specs.Sets.{Set, Agreement, card, Kplex, Within}
 use Rattle.ceiling.specs.Rules.{Number, Lawful, smaller}
-use Rattle.ceiling.specs.Formulas.{marks_of_both, degree_number, pair_number, by_degree_lem, by_pair_lem}
+use Rattle.ceiling.specs.Formulas.{marks_of_both, degree_number, pair_number, by_degree, by_pair}
 
 -- m is the smallest f u over the marks u of s
 pub record Smallest (s : Set) (f : ℕ → ℕ) (m : ℕ) : Type 0 where
@@ -34,13 +34,13 @@ pub record IsPairNumber (n k : ℕ) (agrees : Agreement) (s c : Set) (m : ℕ) :
 
 -- the formulas are the rules, for all sets of marks below n, and no other numbers are
 pub record FormulasStand : Type 0 where
-  pub degree : (n k : ℕ) (agrees : Agreement) (s c : Set) → Within n s → IsDegreeNumber n k agrees s c (by_degree_lem n k agrees s c)
-  pub one_degree : (n k : ℕ) (agrees : Agreement) (s c : Set) (m : ℕ) → Within n s → IsDegreeNumber n k agrees s c m → m ≡ by_degree_lem n k agrees s c
-  pub pair : (n k : ℕ) (agrees : Agreement) (s c : Set) → Within n s → IsPairNumber n k agrees s c (by_pair_lem n k agrees s c)
-  pub one_pair : (n k : ℕ) (agrees : Agreement) (s c : Set) (m : ℕ) → Within n s → IsPairNumber n k agrees s c m → m ≡ by_pair_lem n k agrees s c
+  pub degree : (n k : ℕ) (agrees : Agreement) (s c : Set) → Within n s → IsDegreeNumber n k agrees s c (by_degree n k agrees s c)
+  pub one_degree : (n k : ℕ) (agrees : Agreement) (s c : Set) (m : ℕ) → Within n s → IsDegreeNumber n k agrees s c m → m ≡ by_degree n k agrees s c
+  pub pair : (n k : ℕ) (agrees : Agreement) (s c : Set) → Within n s → IsPairNumber n k agrees s c (by_pair n k agrees s c)
+  pub one_pair : (n k : ℕ) (agrees : Agreement) (s c : Set) (m : ℕ) → Within n s → IsPairNumber n k agrees s c m → m ≡ by_pair n k agrees s c
 
 -- both rules are lawful, and the smaller of any two lawful rules is
 pub record RulesAreLawful : Type 0 where
-  pub degree : Lawful (by_degree_lem 128)
-  pub pair : Lawful (by_pair_lem 128)
+  pub degree : Lawful (by_degree 128)
+  pub pair : Lawful (by_pair 128)
   pub smaller_of_two : (first second : Number) → Lawful first → Lawful second → Lawful (smaller first second)

@@ -14,15 +14,15 @@ number TooFewPairPlaces = 43
 number FloorTooHigh = 44
 
 -- how many places the pairs that wait want: as many as there are agreements
-abbrev pub pair_places_lem : Meaning → ℕ
-pair_places_lem m = agreements m.marks m.agrees
+abbrev pub pair_places : Meaning → ℕ
+pair_places m = agreements m.marks m.agrees
 
 -- under which condition co-pruning the sheet m with k and floor f, in so many places for marks and for pairs, is refused
 abbrev pub Refuses : Meaning → ℕ → ℕ → ℕ → ℕ → PruneRefusal → Type 0
 Refuses m k f mark_room pair_room KOutOfRange = 1 ≤ k → k ≤ 16 → ⊥
 Refuses m k f mark_room pair_room TooFewMarkPlaces = (1 ≤ k) × (k ≤ 16) × (mark_room < m.marks)
-Refuses m k f mark_room pair_room TooFewPairPlaces = (1 ≤ k) × (k ≤ 16) × (m.marks ≤ mark_room) × (pair_room < pair_places_lem m)
-Refuses m k f mark_room pair_room FloorTooHigh = (1 ≤ k) × (k ≤ 16) × (m.marks ≤ mark_room) × (pair_places_lem m ≤ pair_room) × (128 < f)
+Refuses m k f mark_room pair_room TooFewPairPlaces = (1 ≤ k) × (k ≤ 16) × (m.marks ≤ mark_room) × (pair_room < pair_places m)
+Refuses m k f mark_room pair_room FloorTooHigh = (1 ≤ k) × (k ≤ 16) × (m.marks ≤ mark_room) × (pair_places m ≤ pair_room) × (128 < f)
 
 -- what remains is the largest set of agreements of the sheet in which both ends of each have at least f + 1 - k agreements and
 -- share at least f + 1 - 2k marks; the marks left are those with at least f + 1 - k of them
@@ -35,7 +35,7 @@ pub record Accepts (m : Meaning) (k f mark_room pair_room v : ℕ) (m' : Meaning
   pub low : 1 ≤ k
   pub high : k ≤ 16
   pub marks : m.marks ≤ mark_room
-  pub pairs : pair_places_lem m ≤ pair_room
+  pub pairs : pair_places m ≤ pair_room
   pub floor : f ≤ 128
   pub answer : v ≡ 0
   pub remains : Remains m k f m' left

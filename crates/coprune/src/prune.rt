@@ -2,7 +2,7 @@
 ghost use Rattle.std.specs.Prelude.{◌≡◌, true, false, length, is_ok};
 ghost use Rattle.marks.specs.Members.{members};
 ghost use Rattle.pruning.specs.Pruned.{Largest};
-ghost use Rattle.coprune.specs.Answers.{pair_places_lem, CoPrunes, MayHoldAnything};
+ghost use Rattle.coprune.specs.Answers.{pair_places, CoPrunes, MayHoldAnything};
 
 use crate::limits::Limits;
 use crate::look::Pair;
@@ -48,7 +48,7 @@ pub fn co_prune<S: Strike>(
 
 // How many places the pairs that wait want: one for each agreement.
 pub fn pair_places<S: Sheet>(sheet: &S) -> u32
-    ensures { result ≡ pair_places_lem (S.Sheet.meaning sheet.now) }
+    ensures { result ≡ pair_places (S.Sheet.meaning sheet.now) }
 {
     count_agreements(sheet)
 }

@@ -1,6 +1,6 @@
 // What may be wrong with one word of a file.
 ghost use Rattle.std.specs.Prelude.{◌≡◌, ◌<◌, length};
-ghost use Rattle.fileword.specs.Faults.{at, measured, may_begin_lem, in_measured, in_pairs, may_stand_lem, spare_set_lem, in_range_lem, comes_after_lem, pair_fits, end_load_lem, lacks_end_lem};
+ghost use Rattle.fileword.specs.Faults.{at, measured, may_begin, in_measured, in_pairs, may_stand, spare_set, in_range, comes_after, pair_fits, end_load, lacks_end};
 ghost use Rattle.file.specs.Finding.{Finds};
 
 use fileword::files::{Fault, Wanted};
@@ -21,7 +21,7 @@ pub(crate) fn is_measured(words: &[u32]) -> bool
 }
 
 fn may_begin(wanted: Wanted, kind: u32) -> bool
-    ensures { result ≡ may_begin_lem wanted kind }
+    ensures { result ≡ may_begin wanted kind }
 {
     match wanted {
         Wanted::Either => kind == 2 || kind == 15 || kind == 7,
@@ -52,7 +52,7 @@ fn stands_in_pairs(before: u32, kind: u32) -> bool
 
 // Whether the kind of the word at a place may stand there.
 fn may_stand(words: &[u32], wanted: Wanted, place: usize) -> bool
-    ensures { result ≡ may_stand_lem wanted words.now place }
+    ensures { result ≡ may_stand wanted words.now place }
 {
     let kind = kind_of(word_at(words, place));
     if place == 0 {
@@ -69,7 +69,7 @@ fn may_stand(words: &[u32], wanted: Wanted, place: usize) -> bool
 }
 
 fn spare_set(word: u32) -> bool
-    ensures { result ≡ spare_set_lem word }
+    ensures { result ≡ spare_set word }
 {
     let kind = kind_of(word);
     (kind == 1 && load_of(word) / 0x1_0000 != 0)
@@ -77,7 +77,7 @@ fn spare_set(word: u32) -> bool
 }
 
 fn in_range(head: u32) -> bool
-    ensures { result ≡ in_range_lem head }
+    ensures { result ≡ in_range head }
 {
     let k = k_of(head);
     marks_of(head) <= 128 && 1 <= k && k <= 16
@@ -85,7 +85,7 @@ fn in_range(head: u32) -> bool
 
 // Whether a word's pair comes after that of the word before it.
 fn comes_after(before: u32, word: u32) -> bool
-    ensures { result ≡ comes_after_lem before word }
+    ensures { result ≡ comes_after before word }
 {
     let a = upper_of(before);
     let b = upper_of(word);
@@ -103,7 +103,7 @@ fn pair_fits(marks: u32, place: usize, before: u32, word: u32) -> bool
 
 // What an end at this place must say.
 fn end_load(words: &[u32], place: usize) -> usize
-    ensures { result ≡ end_load_lem words.now place }
+    ensures { result ≡ end_load words.now place }
 {
     if is_measured(words) {
         marks_of(word_at(words, 0)) as usize
@@ -139,7 +139,7 @@ pub(crate) fn fault_at(words: &[u32], wanted: Wanted, place: usize) -> Option<Fa
 
 // Whether no word is an end.
 pub(crate) fn lacks_end(words: &[u32]) -> bool
-    ensures { result ≡ lacks_end_lem words.now }
+    ensures { result ≡ lacks_end words.now }
 {
     for word in words {
         if kind_of(*word) == 15 {

@@ -2,7 +2,7 @@
 use Rattle.std.proofs.Common.{◌≡◌, ℕ, ◌/◌, ◌^◌, ◌<◌, ◌≤◌, true, false, List, length, ap, ◌∙◌, ap₂, inl, inr, arith}
 use Rattle.std.proofs.lemmas.Bool.{eqb-true, cases_lt}
 use Rattle.fileword.specs.Layout.{kind, load, upper, head_marks, head_k, head_word}
-use Rattle.fileword.specs.Faults.{at, marks_said, k_said, may_begin_lem, spare_set_lem, in_range_lem}
+use Rattle.fileword.specs.Faults.{at, marks_said, k_said, may_begin, spare_set, in_range}
 use Rattle.fileword.specs.declared.files.Summary.{Summary}
 use Rattle.fileword.specs.declared.files.Wanted.{Wanted}
 use Rattle.fileword.proofs.Words.{kind_head, load_head, marks_of_head, k_of_head, head_back}
@@ -14,13 +14,13 @@ pub same_summary : (f g : Summary) → f.form ≡ g.form → f.marks ≡ g.marks
 same_summary f g a b c =
     ap₂ (λ x y. record { form = x; marks = y; k = f.k }) a b ∙ ap (λ z. record { form = g.form; marks = g.marks; k = z }) c
 
-pub head_unspoilt : (n k : ℕ) → n < 2 ^ 8 → k < 2 ^ 8 → spare_set_lem (head_word n k) ≡ false
+pub head_unspoilt : (n k : ℕ) → n < 2 ^ 8 → k < 2 ^ 8 → spare_set (head_word n k) ≡ false
 head_unspoilt n k g h =
     let one = kind_head n k g h in
     spare_clear (kind (head_word n k)) (load (head_word n k) / 2 ^ 16) (upper (head_word n k)) (λ e. omega (arith, load_head n k g h))
     (λ e. elim e [ inl f ↦ absurd (omega arith) | inr f ↦ absurd (omega arith) ])
 
-pub head_in_range : (n k : ℕ) → n ≤ 128 → 1 ≤ k → k ≤ 16 → in_range_lem (head_word n k) ≡ true
+pub head_in_range : (n k : ℕ) → n ≤ 128 → 1 ≤ k → k ≤ 16 → in_range (head_word n k) ≡ true
 head_in_range n k few low high =
     let e = marks_of_head n k (omega arith) (omega arith) in
     let f = k_of_head n k (omega arith) (omega arith) in
@@ -52,5 +52,5 @@ module _ (wanted : Wanted) (ws : List ℕ) (c : Clean wanted ws) where
   pub two_words : 1 < length ws
   two_words = let q = end_place ws c.ended in omega (arith, q.1, end_after_head q.0 q.2)
 
-  pub begins : may_begin_lem wanted (kind (at ws 1)) ≡ true
+  pub begins : may_begin wanted (kind (at ws 1)) ≡ true
   begins = c.stands 1 two_words

@@ -6,7 +6,7 @@ use Rattle.std.proofs.lemmas.Bool.{cases_lt, eq-eqb, cond-true}
 use Rattle.plex.specs.Distance.{Sighting}
 use Rattle.fileword.specs.Layout.{kind, load, upper, head_word, end_word, point_of}
 use Rattle.fileword.specs.Files.{OnDome, sighting_words, measured_file}
-use Rattle.fileword.specs.Faults.{at, marks_said, measured, may_stand_lem, in_measured, spare_set_lem, pair_fits, end_load_lem, takes}
+use Rattle.fileword.specs.Faults.{at, marks_said, measured, may_stand, in_measured, spare_set, pair_fits, end_load, takes}
 use Rattle.fileword.specs.Laws.{said}
 use Rattle.fileword.specs.declared.files.Form.TheVariants.{Pairs, Measured}
 use Rattle.fileword.specs.declared.files.Wanted.{Wanted}
@@ -69,7 +69,7 @@ module _ (n k t : ℕ) (ss : List Sighting) (few : n ≤ 128) (low : 1 ≤ k) (h
             inr (e, end_kind j e))
       ]
 
-  spares : (p : ℕ) → p < length file → spare_set_lem (at file p) ≡ false
+  spares : (p : ℕ) → p < length file → spare_set (at file p) ≡ false
   spares zero l = head_unspoilt n k (omega arith) (omega arith)
   spares (suc zero) l =
       spare_clear (kind (at file 1)) (load (at file 1) / 2 ^ 16) (upper (at file 1)) (λ e. absurd (omega (arith, tolerance_kind)))
@@ -91,7 +91,7 @@ module _ (n k t : ℕ) (ss : List Sighting) (few : n ≤ 128) (low : 1 ≤ k) (h
   pairs (suc (suc j)) l e =
       absurd (elim (each j l) [ inl g ↦ omega (arith, g.1) | inr g ↦ omega (arith, g.1) ])
 
-  ends : (p : ℕ) → p < length file → kind (at file p) ≡ 15 → load (at file p) ≡ end_load_lem file p
+  ends : (p : ℕ) → p < length file → kind (at file p) ≡ 15 → load (at file p) ≡ end_load file p
   ends zero l e = absurd (omega (arith, kind_head n k (omega arith) (omega arith)))
   ends (suc zero) l e = absurd (omega (arith, tolerance_kind))
   ends (suc (suc j)) l e =
@@ -111,7 +111,7 @@ module _ (n k t : ℕ) (ss : List Sighting) (few : n ≤ 128) (low : 1 ≤ k) (h
       ]
 
   module _ (wanted : Wanted) (taken : takes wanted Measured ≡ true) where
-    stands : (p : ℕ) → p < length file → may_stand_lem wanted file p ≡ true
+    stands : (p : ℕ) → p < length file → may_stand wanted file p ≡ true
     stands zero l = eq-eqb (kind (head_word n k)) 1 (kind_head n k (omega arith) (omega arith))
     stands (suc zero) l = measured_begins wanted (kind (at file 1)) taken tolerance_kind
     stands (suc (suc j)) l =

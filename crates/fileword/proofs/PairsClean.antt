@@ -5,7 +5,7 @@ use Rattle.std.proofs.ByRecursion.{All-get_or}
 use Rattle.std.proofs.lemmas.Bool.{cases_lt, ne_eqb, eq-eqb, cond-false}
 use Rattle.fileword.specs.Layout.{kind, load, upper, lower, head_word}
 use Rattle.fileword.specs.Files.{Pair, NamesMarks, RisingPairs, pair_file}
-use Rattle.fileword.specs.Faults.{at, marks_said, measured, may_stand_lem, in_pairs, spare_set_lem, pair_fits, comes_after_lem, end_load_lem, takes}
+use Rattle.fileword.specs.Faults.{at, marks_said, measured, may_stand, in_pairs, spare_set, pair_fits, comes_after, end_load, takes}
 use Rattle.fileword.specs.Laws.{said}
 use Rattle.fileword.specs.declared.files.Form.TheVariants.{Pairs, Measured}
 use Rattle.fileword.specs.declared.files.Wanted.{Wanted}
@@ -74,10 +74,10 @@ module _ (n k : ℕ) (ps : List Pair) (few : n ≤ 128) (low : 1 ≤ k) (high : 
       (λ e. elim (either 0 (omega (arith, length_pair_file n k ps))) [ inl g ↦ omega arith | inr g ↦ omega arith ])
 
   module _ (i : ℕ) (d : Pair) (l : i < length ps) (b : ℕ) where
-    fits : (i ≡ 0) ⊎ (comes_after_lem b (at file (suc i)) ≡ true) → pair_fits (marks_said file) (suc i) b (at file (suc i)) ≡ true
+    fits : (i ≡ 0) ⊎ (comes_after b (at file (suc i)) ≡ true) → pair_fits (marks_said file) (suc i) b (at file (suc i)) ≡ true
     fits h =
         let m = marks_there i d l in
-        pair_passes (marks_said file) (suc i) (upper (at file (suc i))) (lower (at file (suc i))) (comes_after_lem b (at file (suc i)))
+        pair_passes (marks_said file) (suc i) (upper (at file (suc i))) (lower (at file (suc i))) (comes_after b (at file (suc i)))
         (omega (arith, pair_upper i d l, pair_lower i d l)) (omega (arith, said_marks, pair_lower i d l))
         (elim h [ inl e ↦ inl (omega arith) | inr e ↦ inr e ])
 
@@ -87,7 +87,7 @@ module _ (n k : ℕ) (ps : List Pair) (few : n ≤ 128) (low : 1 ≤ k) (high : 
       let d : Pair = record { a = 0; b = 0 } in
       let g : i < length ps = omega arith in
       let r = rising_step ps i d rising l in
-      fits (suc i) d l (at file p) (inr (ap (λ q. comes_after_lem (at file q) (at file (suc (suc i)))) e
+      fits (suc i) d l (at file p) (inr (ap (λ q. comes_after (at file q) (at file (suc (suc i)))) e
       ∙ later_passes (upper (at file (suc i))) (lower (at file (suc i))) (upper (at file (suc (suc i)))) (lower (at file (suc (suc i))))
       (rw (pair_upper i d g, pair_lower i d g, pair_upper (suc i) d l, pair_lower (suc i) d l) r)))
 
@@ -96,7 +96,7 @@ module _ (n k : ℕ) (ps : List Pair) (few : n ≤ 128) (low : 1 ≤ k) (high : 
   pairs (suc i) l e =
       elim (each i l) [ inl g ↦ passes i g.0 (suc i - 1) (omega arith) | inr g ↦ absurd (omega (arith, g.1)) ]
 
-  ends : (p : ℕ) → p < length file → kind (at file p) ≡ 15 → load (at file p) ≡ end_load_lem file p
+  ends : (p : ℕ) → p < length file → kind (at file p) ≡ 15 → load (at file p) ≡ end_load file p
   ends zero l e = absurd (omega (arith, kind_head n k (omega arith) (omega arith)))
   ends (suc i) l e =
       elim (each i l) [
@@ -105,7 +105,7 @@ module _ (n k : ℕ) (ps : List Pair) (few : n ≤ 128) (low : 1 ≤ k) (high : 
             ∙ sym (cond-false (measured file) (marks_said file) (suc i - 1) not_measured ∙ omega (arith, g.0))
       ]
 
-  spares : (p : ℕ) → p < length file → spare_set_lem (at file p) ≡ false
+  spares : (p : ℕ) → p < length file → spare_set (at file p) ≡ false
   spares zero l = head_unspoilt n k (omega arith) (omega arith)
   spares (suc i) l =
       spare_clear (kind (at file (suc i))) (load (at file (suc i)) / 2 ^ 16) (upper (at file (suc i)))
@@ -116,7 +116,7 @@ module _ (n k : ℕ) (ps : List Pair) (few : n ≤ 128) (low : 1 ≤ k) (high : 
       ])
 
   module _ (wanted : Wanted) (taken : takes wanted Pairs ≡ true) where
-    stands : (p : ℕ) → p < length file → may_stand_lem wanted file p ≡ true
+    stands : (p : ℕ) → p < length file → may_stand wanted file p ≡ true
     stands zero l = eq-eqb (kind (head_word n k)) 1 (kind_head n k (omega arith) (omega arith))
     stands (suc zero) l = pairs_begin wanted (kind (at file 1)) taken (either 0 l)
     stands (suc (suc i)) l =

@@ -7,7 +7,7 @@ use Rattle.std.proofs.lemmas.List.FromFn.{length-map-range_with_len, get_or-map-
 use Rattle.std.proofs.lemmas.Bool.{cases_lt, cases_eq, cond-false}
 use Rattle.fileword.specs.Layout.{kind, load, upper, lower, end_word}
 use Rattle.fileword.specs.Files.{Pair, NamesMarks, ComesBefore, pair_file, PairFile}
-use Rattle.fileword.specs.Faults.{at, marks_said, k_said, measured, in_pairs, pair_fits, comes_after_lem}
+use Rattle.fileword.specs.Faults.{at, marks_said, k_said, measured, in_pairs, pair_fits, comes_after}
 use Rattle.fileword.specs.declared.files.Wanted.{Wanted}
 use Rattle.fileword.proofs.Words.{word_back, fields_back}
 use Rattle.fileword.proofs.WordTests.{begins_pairs, stands_in_pairs_lem, pair_or_end, names, follows, later}
@@ -60,16 +60,16 @@ module _ (wanted : Wanted) (ws : List ℕ) (c : Clean wanted ws) (no : measured 
     named : (i : ℕ) → i < m → NamesMarks (marks_said ws) (pair_at ws i)
     named i l =
         names (marks_said ws) (suc i) (upper (at ws (suc i))) (lower (at ws (suc i)))
-        (comes_after_lem (at ws (suc i - 1)) (at ws (suc i))) (fits i l)
+        (comes_after (at ws (suc i - 1)) (at ws (suc i))) (fits i l)
 
     step : (i : ℕ) → 0 ≤ i → suc i < 0 + m → ComesBefore (pair_at ws i) (pair_at ws (suc i))
     step i z l =
         let e : suc (suc i) - 1 ≡ suc i = omega arith in
         let f = fits (suc i) (omega arith) in
         later (upper (at ws (suc i))) (lower (at ws (suc i))) (upper (at ws (suc (suc i)))) (lower (at ws (suc (suc i))))
-        (ap (λ p. comes_after_lem (at ws p) (at ws (suc (suc i)))) (sym e)
+        (ap (λ p. comes_after (at ws p) (at ws (suc (suc i)))) (sym e)
         ∙ follows (marks_said ws) (suc (suc i)) (upper (at ws (suc (suc i)))) (lower (at ws (suc (suc i))))
-        (comes_after_lem (at ws (suc (suc i) - 1)) (at ws (suc (suc i)))) f (omega arith))
+        (comes_after (at ws (suc (suc i) - 1)) (at ws (suc (suc i)))) f (omega arith))
 
     long_enough : length (pairs_at ws m) ≡ m
     long_enough = length-map-range_with_len (pair_at ws) 0 m

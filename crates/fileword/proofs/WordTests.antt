@@ -2,34 +2,34 @@
 use Rattle.std.proofs.Common.{◌≡◌, ℕ, ◌+◌, ◌-◌, ◌*◌, ◌%◌, ◌<◌, ◌≤◌, Bool, true, false, cond, not, ◌&&◌, ◌||◌, eqb, ltb, leb, ◌⊎◌, inl, inr, arith}
 use Rattle.std.proofs.lemmas.Bool.{cases_lt, cases_eq}
 use Rattle.std.proofs.lemmas.Bool.Decides.{nat_tests}
-use Rattle.fileword.specs.Faults.{may_begin_lem, in_measured, in_pairs, takes}
+use Rattle.fileword.specs.Faults.{may_begin, in_measured, in_pairs, takes}
 use Rattle.fileword.specs.declared.files.Form.TheVariants.{Pairs, Measured}
 use Rattle.fileword.specs.declared.files.Wanted.{Wanted}
 use Rattle.fileword.specs.declared.files.Wanted.TheVariants.{Either, OnlyPairs, OnlyMeasured}
 
 -- what may begin, and is not a tolerance, is a pair or the end, and the reader takes pairs
-pub begins_pairs : (wanted : Wanted) (k : ℕ) → may_begin_lem wanted k ≡ true → eqb k 7 ≡ false → (k ≡ 2) ⊎ (k ≡ 15)
+pub begins_pairs : (wanted : Wanted) (k : ℕ) → may_begin wanted k ≡ true → eqb k 7 ≡ false → (k ≡ 2) ⊎ (k ≡ 15)
 begins_pairs Either k h e = grind (arith, nat_tests)
 begins_pairs OnlyPairs k h e = grind (arith, nat_tests)
 begins_pairs OnlyMeasured k h e = grind (arith, nat_tests)
 
-pub takes_pairs : (wanted : Wanted) (k : ℕ) → may_begin_lem wanted k ≡ true → eqb k 7 ≡ false → takes wanted Pairs ≡ true
+pub takes_pairs : (wanted : Wanted) (k : ℕ) → may_begin wanted k ≡ true → eqb k 7 ≡ false → takes wanted Pairs ≡ true
 takes_pairs Either k h e = grind (arith, nat_tests)
 takes_pairs OnlyPairs k h e = grind (arith, nat_tests)
 takes_pairs OnlyMeasured k h e = grind (arith, nat_tests)
 
-pub takes_measured : (wanted : Wanted) (k : ℕ) → may_begin_lem wanted k ≡ true → eqb k 7 ≡ true → takes wanted Measured ≡ true
+pub takes_measured : (wanted : Wanted) (k : ℕ) → may_begin wanted k ≡ true → eqb k 7 ≡ true → takes wanted Measured ≡ true
 takes_measured Either k h e = grind (arith, nat_tests)
 takes_measured OnlyPairs k h e = grind (arith, nat_tests)
 takes_measured OnlyMeasured k h e = grind (arith, nat_tests)
 
 -- and back
-pub pairs_begin : (wanted : Wanted) (k : ℕ) → takes wanted Pairs ≡ true → (k ≡ 2) ⊎ (k ≡ 15) → may_begin_lem wanted k ≡ true
+pub pairs_begin : (wanted : Wanted) (k : ℕ) → takes wanted Pairs ≡ true → (k ≡ 2) ⊎ (k ≡ 15) → may_begin wanted k ≡ true
 pairs_begin Either k h e = grind (arith, nat_tests)
 pairs_begin OnlyPairs k h e = grind (arith, nat_tests)
 pairs_begin OnlyMeasured k h e = grind (arith, nat_tests)
 
-pub measured_begins : (wanted : Wanted) (k : ℕ) → takes wanted Measured ≡ true → k ≡ 7 → may_begin_lem wanted k ≡ true
+pub measured_begins : (wanted : Wanted) (k : ℕ) → takes wanted Measured ≡ true → k ≡ 7 → may_begin wanted k ≡ true
 measured_begins Either k h e = grind (arith, nat_tests)
 measured_begins OnlyPairs k h e = grind (arith, nat_tests)
 measured_begins OnlyMeasured k h e = grind (arith, nat_tests)

@@ -36,10 +36,10 @@ abbrev pub measured : List ℕ → Bool
 measured ws = kind (at ws 1) == 7
 
 -- a kind that may stand after the head, for a reader who wants this form
-abbrev pub may_begin_lem : Wanted → ℕ → Bool
-may_begin_lem Either k = (k == 2 || k == 15) || k == 7
-may_begin_lem OnlyPairs k = k == 2 || k == 15
-may_begin_lem OnlyMeasured k = k == 7
+abbrev pub may_begin : Wanted → ℕ → Bool
+may_begin Either k = (k == 2 || k == 15) || k == 7
+may_begin OnlyPairs k = k == 2 || k == 15
+may_begin OnlyMeasured k = k == 7
 
 -- kinds 3, 4, 5, 6 for each of n marks in turn, from place 2 on, and then an end; nothing after it
 abbrev pub in_measured : ℕ → ℕ → ℕ → Bool
@@ -50,46 +50,46 @@ abbrev pub in_pairs : ℕ → ℕ → Bool
 in_pairs before k = not (before == 15) && (k == 2 || k == 15)
 
 -- the kind of the word at place p may stand there
-abbrev pub may_stand_lem : Wanted → List ℕ → ℕ → Bool
-may_stand_lem wanted ws p =
+abbrev pub may_stand : Wanted → List ℕ → ℕ → Bool
+may_stand wanted ws p =
     cond (p == 0) (kind (at ws 0) == 1)
-    (cond (p == 1) (may_begin_lem wanted (kind (at ws 1)))
+    (cond (p == 1) (may_begin wanted (kind (at ws 1)))
     (cond (measured ws) (in_measured (marks_said ws) p (kind (at ws p))) (in_pairs (kind (at ws (p - 1))) (kind (at ws p)))))
 
 -- bits 27 to 16 of a head, and bits 27 to 14 of a z word, are spare
-abbrev pub spare_set_lem : ℕ → Bool
-spare_set_lem w =
+abbrev pub spare_set : ℕ → Bool
+spare_set w =
     (kind w == 1 && not (load w / 2 ^ 16 == 0)) || ((kind w == 4 || kind w == 6) && not (upper w == 0))
 
 -- a head for at most 128 marks, and for k from 1 to 16
-abbrev pub in_range_lem : ℕ → Bool
-in_range_lem w = nat_le (head_marks w) 128 && (nat_le 1 (head_k w) && nat_le (head_k w) 16)
+abbrev pub in_range : ℕ → Bool
+in_range w = nat_le (head_marks w) 128 && (nat_le 1 (head_k w) && nat_le (head_k w) 16)
 
 -- the pair of a word comes after that of the word before, by its first mark and then by its second
-abbrev pub comes_after_lem : ℕ → ℕ → Bool
-comes_after_lem before w = nat_lt (upper before) (upper w) || (upper before == upper w && nat_lt (lower before) (lower w))
+abbrev pub comes_after : ℕ → ℕ → Bool
+comes_after before w = nat_lt (upper before) (upper w) || (upper before == upper w && nat_lt (lower before) (lower w))
 
 -- a pair of two marks below n, the lower first, after the pair before it
 abbrev pub pair_fits : ℕ → ℕ → ℕ → ℕ → Bool
-pair_fits n p before w = (nat_lt (upper w) (lower w) && nat_lt (lower w) n) && (p == 1 || comes_after_lem before w)
+pair_fits n p before w = (nat_lt (upper w) (lower w) && nat_lt (lower w) n) && (p == 1 || comes_after before w)
 
 -- what the end's load must be: the number of marks, or of pairs, which stand from place 1 on
-abbrev pub end_load_lem : List ℕ → ℕ → ℕ
-end_load_lem ws p = cond (measured ws) (marks_said ws) (p - 1)
+abbrev pub end_load : List ℕ → ℕ → ℕ
+end_load ws p = cond (measured ws) (marks_said ws) (p - 1)
 
 -- no word is an end
-abbrev pub lacks_end_lem : List ℕ → Bool
-lacks_end_lem [] = true
-lacks_end_lem (w ∷ ws) = not (kind w == 15) && lacks_end_lem ws
+abbrev pub lacks_end : List ℕ → Bool
+lacks_end [] = true
+lacks_end (w ∷ ws) = not (kind w == 15) && lacks_end ws
 
 -- the word at place p has the fault. Only a word has a fault, but for the want of an end, at the place after the last word
 abbrev pub faulty : Wanted → List ℕ → ℕ → Fault → Bool
-faulty wanted ws p WrongKind = nat_lt p (length ws) && not (may_stand_lem wanted ws p)
-faulty wanted ws p SpareBit = nat_lt p (length ws) && spare_set_lem (at ws p)
-faulty wanted ws p OutOfRange = nat_lt p (length ws) && (p == 0 && not (in_range_lem (at ws 0)))
+faulty wanted ws p WrongKind = nat_lt p (length ws) && not (may_stand wanted ws p)
+faulty wanted ws p SpareBit = nat_lt p (length ws) && spare_set (at ws p)
+faulty wanted ws p OutOfRange = nat_lt p (length ws) && (p == 0 && not (in_range (at ws 0)))
 faulty wanted ws p WrongPair = nat_lt p (length ws) && (kind (at ws p) == 2 && not (pair_fits (marks_said ws) p (at ws (p - 1)) (at ws p)))
-faulty wanted ws p WrongEnd = nat_lt p (length ws) && (kind (at ws p) == 15 && not (load (at ws p) == end_load_lem ws p))
-faulty wanted ws p NoEnd = p == length ws && lacks_end_lem ws
+faulty wanted ws p WrongEnd = nat_lt p (length ws) && (kind (at ws p) == 15 && not (load (at ws p) == end_load ws p))
+faulty wanted ws p NoEnd = p == length ws && lacks_end ws
 
 -- no word before the place has a fault, the word there has this one, and none that is looked for before it
 pub record Refused (wanted : Wanted) (ws : List ℕ) (r : FileRefusal) : Type 0 where

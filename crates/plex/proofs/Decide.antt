@@ -2,7 +2,7 @@
 use Rattle.std.proofs.Common.{◌≡◌, ℕ, zero, suc, ◌+◌, ◌<◌, true, not, ◌||◌, leb, Decides, refl, ap, ◌∙◌, inl, inr, arith}
 use Rattle.std.proofs.lemmas.Bool.Decides.{nat_tests}
 use Rattle.std.proofs.lemmas.Bool.{cases_eq, leb-true, and_parts, and_from}
-use Rattle.plex.specs.Sets.{Set, Agreement, card, ◌∩◌, Kplex, Within, all_below, is_kplex_lem}
+use Rattle.plex.specs.Sets.{Set, Agreement, card, ◌∩◌, Kplex, Within, all_below, is_kplex}
 
 pub all_from : (n : ℕ) (p : Set) → all_below n p ≡ true → (i : ℕ) → i < n → p i ≡ true
 unfolding all_below
@@ -16,7 +16,7 @@ unfolding all_below
 all_to zero p h = refl
 all_to (suc n) p h = and_from (p n) (all_below n p) (h n (omega arith)) (all_to n p (λ i l. h i (omega arith)))
 
-pub kplex_decides : (n k : ℕ) (a : Agreement) (s : Set) → Within n s → Decides (is_kplex_lem n k a s) (Kplex n k a s)
+pub kplex_decides : (n k : ℕ) (a : Agreement) (s : Set) → Within n s → Decides (is_kplex n k a s) (Kplex n k a s)
 kplex_decides n k a s w = (
   (λ e i t. let z = all_from n (λ i. not (s i) || leb (card n s) (k + card n (s ∩ a i))) e i (w i t) in
       (w i t, leb-true (card n s) (k + card n (s ∩ a i)) (grind arith))),

@@ -1,6 +1,6 @@
 -- The laws of sets, words and k-plexes, each proved where a contract names it. Assumes nothing.
 use Rattle.std.specs.Prelude.{◌≡◌, ℕ, ◌+◌, ◌-◌, ◌*◌, ◌/◌, ◌%◌, ◌^◌, ◌<◌, true, false, not, ◌&&◌, ◌||◌, List, length, Decides, Option, bit_and, bit_or, slice_index, slice_set}
-use Rattle.plex.specs.Sets.{Set, Agreement, card, ◌∩◌, ◌∪◌, ◌∖◌, only, ◌⊆◌, Kplex, Within, is_kplex_lem, rising}
+use Rattle.plex.specs.Sets.{Set, Agreement, card, ◌∩◌, ◌∪◌, ◌∖◌, only, ◌⊆◌, Kplex, Within, is_kplex, rising}
 use Rattle.plex.specs.Least.{Least, least}
 use Rattle.plex.specs.Words.{bits_of, holds, ones_in, Words, words_of}
 use Rattle.plex.specs.Distance.{Sighting, sighted_alike}
@@ -12,7 +12,7 @@ PartsArePlexes =
 
 -- the test for a k-plex passes just the k-plexes, among sets of marks below n
 abbrev pub TestFindsPlexes : Type 0
-TestFindsPlexes = (n k : ℕ) (agrees : Agreement) (s : Set) → Within n s → Decides (is_kplex_lem n k agrees s) (Kplex n k agrees s)
+TestFindsPlexes = (n k : ℕ) (agrees : Agreement) (s : Set) → Within n s → Decides (is_kplex n k agrees s) (Kplex n k agrees s)
 
 -- the mark of a set whose number is least, the lowest of those, is found, and there is no other
 pub record LeastFound : Type 0 where

@@ -86,8 +86,8 @@ all_below zero s = true
 all_below (suc n) s = s n && all_below n s
 
 -- whether a set of marks below n is a k-plex
-abbrev pub is_kplex_lem : ℕ → ℕ → Agreement → Set → Bool
-is_kplex_lem n k agrees s = all_below n (λ i. not (s i) || nat_le (card n s) (k + card n (s ∩ agrees i)))
+abbrev pub is_kplex : ℕ → ℕ → Agreement → Set → Bool
+is_kplex n k agrees s = all_below n (λ i. not (s i) || nat_le (card n s) (k + card n (s ∩ agrees i)))
 
 abbrev pub if_in : Bool → ℕ → List ℕ
 if_in true i = i ∷ []

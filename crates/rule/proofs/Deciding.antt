@@ -4,17 +4,17 @@ use Rattle.std.proofs.lemmas.Bool.Decides.{nat_tests}
 use Rattle.std.proofs.lemmas.Bool.{and_parts, and_from, le-leb, leb-true, both_ways}
 use Rattle.plex.specs.Sets.{Set, Agreement, card, ◌∪◌, ◌∩◌, Kplex, Within}
 use Rattle.plex.proofs.Count.{card_le, card_some}
-use Rattle.ceiling.specs.Formulas.{degree_number, in_range_lem, by_degree_lem}
+use Rattle.ceiling.specs.Formulas.{degree_number, in_range, by_degree}
 use Rattle.ceiling.specs.Laws.{Smallest, AskedWell}
 use Rattle.ceiling.proofs.Smallest.{smallest_unique}
 use Rattle.ceiling.proofs.Formulas.{degree_is}
 use Rattle.rule.specs.Passes.{Lowered, nothing_yet}
 
 -- k is not from 1 to 16
-pub out_of_range : (k : ℕ) (a : Agreement) (s : Set) → in_range_lem k ≡ false → AskedWell 128 k a s → ⊥
-out_of_range k a s e q = both_ways (in_range_lem k) e (and_from (leb 1 k) _ (le-leb 1 k q.low) (le-leb k 16 q.high))
+pub out_of_range : (k : ℕ) (a : Agreement) (s : Set) → in_range k ≡ false → AskedWell 128 k a s → ⊥
+out_of_range k a s e q = both_ways (in_range k) e (and_from (leb 1 k) _ (le-leb 1 k q.low) (le-leb k 16 q.high))
 
-pub asked_well : (k : ℕ) (a : Agreement) (s : Set) → in_range_lem k ≡ true → Kplex 128 k a s → AskedWell 128 k a s
+pub asked_well : (k : ℕ) (a : Agreement) (s : Set) → in_range k ≡ true → Kplex 128 k a s → AskedWell 128 k a s
 asked_well k a s e q =
     let x = and_parts (leb 1 k) _ e in record { low = leb-true 1 k x.0; high = leb-true k 16 x.1; plex = q }
 
@@ -33,9 +33,9 @@ smallest_found s f start m some small h = record {
 }
 
 module _ (k : ℕ) (a : Agreement) (s c : Set) (w : Within 128 s) where
-  pub degree_found : in_range_lem k ≡ true → 0 < card 128 s → (m : ℕ) → Kplex 128 k a s × Lowered s (degree_number 128 k a s c) nothing_yet m → m ≡ by_degree_lem 128 k a s c
+  pub degree_found : in_range k ≡ true → 0 < card 128 s → (m : ℕ) → Kplex 128 k a s × Lowered s (degree_number 128 k a s c) nothing_yet m → m ≡ by_degree 128 k a s c
   degree_found e some m h =
       let q = asked_well k a s e h.0 in
-      smallest_unique s (degree_number 128 k a s c) m (by_degree_lem 128 k a s c)
+      smallest_unique s (degree_number 128 k a s c) m (by_degree 128 k a s c)
       (smallest_found s (degree_number 128 k a s c) nothing_yet m some (λ u. omega (arith, q.high, card_le 128 ((s ∪ c) ∩ a u))) h.1)
       ((degree_is 128 k a s c w).smallest q some)

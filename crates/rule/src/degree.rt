@@ -1,6 +1,6 @@
 // The degree rule: a k-plex has at most k marks more than any of its marks agrees with.
 ghost use Rattle.std.specs.Prelude.{◌≤◌};
-ghost use Rattle.ceiling.specs.Formulas.{by_degree_lem};
+ghost use Rattle.ceiling.specs.Formulas.{by_degree};
 ghost use Rattle.marks.specs.Members.{members};
 ghost use Rattle.tables.specs.Meanings.{bit_meaning};
 ghost use Rattle.rule.specs.Passes.{Degrees};
@@ -15,7 +15,7 @@ use tables::bits::BitTable;
 pub struct DegreeRule;
 
 impl CeilingRule for DegreeRule {
-    ghost number = { λ _. by_degree_lem 128 };
+    ghost number = { λ _. by_degree 128 };
 
     ghost lawful = { λ rule. degree_lawful };
 

@@ -1,7 +1,7 @@
 // The pair rule: besides the chosen marks, a k-plex has at most those that one of two chosen marks may still miss, those
 // that the other may, and the candidates that agree with both.
 ghost use Rattle.std.specs.Prelude.{◌≡◌, ◌+◌, ◌-◌, ◌≤◌};
-ghost use Rattle.ceiling.specs.Formulas.{by_pair_lem};
+ghost use Rattle.ceiling.specs.Formulas.{by_pair};
 ghost use Rattle.ceiling.proofs.Lawful.{pair_lawful};
 
 use crate::rules::{CeilingRule, in_range};
@@ -14,7 +14,7 @@ mod passes;
 pub struct PairRule;
 
 impl CeilingRule for PairRule {
-    ghost number = { λ _. by_pair_lem 128 };
+    ghost number = { λ _. by_pair 128 };
 
     ghost lawful = { λ rule. pair_lawful };
 

@@ -1,6 +1,6 @@
 // What every ceiling rule answers.
 ghost use Rattle.std.specs.Prelude.{◌≡◌};
-ghost use Rattle.ceiling.specs.Formulas.{in_range_lem};
+ghost use Rattle.ceiling.specs.Formulas.{in_range};
 ghost use Rattle.ceiling.specs.Rules.{Number, reply, Lawful};
 ghost use Rattle.marks.specs.Members.{members};
 ghost use Rattle.tables.specs.Meanings.{bit_meaning};
@@ -22,7 +22,7 @@ pub trait CeilingRule: Drop {
 
 // k is from 1 to 16.
 pub(crate) fn in_range(k: u32) -> bool
-    ensures { result ≡ in_range_lem k }
+    ensures { result ≡ in_range k }
 {
     1 <= k && k <= 16
 }

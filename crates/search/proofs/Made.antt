@@ -16,7 +16,7 @@ use Rattle.searching.specs.States as states
 use Rattle.searching.specs.Making.{Made}
 use Rattle.searching.proofs.First.{peels_stands}
 use Rattle.plex.specs.Words.{holds}
-use Rattle.coprune.specs.Answers.{pair_places_lem, Remains, CoPrunes}
+use Rattle.coprune.specs.Answers.{pair_places, Remains, CoPrunes}
 use Rattle.coprune.specs.declared.refusal.PruneRefusal.{PruneRefusal}
 use Rattle.coprune.specs.declared.refusal.PruneRefusal.TheVariants.{KOutOfRange, TooFewMarkPlaces, TooFewPairPlaces, FloorTooHigh}
 use Rattle.branch.specs.declared.branches.Branch.{Branch}
@@ -25,7 +25,7 @@ use Rattle.search.specs.View.{opened}
 
 -- co-pruning in enough space is not refused
 pub accepted : (m : Meaning) (k f mark_room pair_room : ℕ) (r : Result ℕ PruneRefusal) (m' : Meaning) (left : Set) → 1 ≤ k → k ≤ 16 →
-    m.marks ≤ mark_room → pair_places_lem m ≤ pair_room → f ≤ 128 → CoPrunes m k f mark_room pair_room r m' left → Remains m k f m' left
+    m.marks ≤ mark_room → pair_places m ≤ pair_room → f ≤ 128 → CoPrunes m k f mark_room pair_room r m' left → Remains m k f m' left
 accepted m k f mark_room pair_room (Ok v) m' left low high marks pairs few p = p.remains
 accepted m k f mark_room pair_room (Err KOutOfRange) m' left low high marks pairs few p = absurd (p low high)
 accepted m k f mark_room pair_room (Err TooFewMarkPlaces) m' left low high marks pairs few p = absurd (omega (arith, p.2))

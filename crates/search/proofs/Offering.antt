@@ -1,7 +1,7 @@
 -- An offered list, judged over 128 marks, is judged as the definition says.
 use Rattle.std.proofs.Common.{◌≡◌, ℕ, ◌≤◌, min, true, false, List, sym, ap, ◌∙◌, subst, arith}
 use Rattle.std.proofs.lemmas.Bool.{both_ways}
-use Rattle.plex.specs.Sets.{Agreement, card, Kplex, Within, is_kplex_lem, among}
+use Rattle.plex.specs.Sets.{Agreement, card, Kplex, Within, is_kplex, among}
 use Rattle.plex.proofs.Decide.{kplex_decides}
 use Rattle.marks.specs.declared.set.MarkSet.{MarkSet}
 use Rattle.marks.specs.Members.{members}
@@ -27,10 +27,10 @@ module _ (n : ℕ) (few : n ≤ 128) (list : List ℕ) (group : MarkSet) (rises 
   below : Within 128 (among list)
   below i t = omega (arith, within_list i t)
 
-  pub offered_plex : (k : ℕ) (a : Agreement) → is_kplex_lem 128 k a (members group) ≡ true → Kplex n k a (among list)
+  pub offered_plex : (k : ℕ) (a : Agreement) → is_kplex 128 k a (members group) ≡ true → Kplex n k a (among list)
   offered_plex k a e =
-      plex_within n few k a (among list) within_list ((kplex_decides 128 k a (among list) below).0 (ap (is_kplex_lem 128 k a) (sym same) ∙ e))
+      plex_within n few k a (among list) within_list ((kplex_decides 128 k a (among list) below).0 (ap (is_kplex 128 k a) (sym same) ∙ e))
 
-  pub offered_none : (k : ℕ) (a : Agreement) → is_kplex_lem 128 k a (members group) ≡ false → Kplex n k a (among list) → ⊥
+  pub offered_none : (k : ℕ) (a : Agreement) → is_kplex 128 k a (members group) ≡ false → Kplex n k a (among list) → ⊥
   offered_none k a e q =
-      both_ways (is_kplex_lem 128 k a (members group)) e (ap (is_kplex_lem 128 k a) same ∙ (kplex_decides 128 k a (among list) below).1 (plex_beyond n k a (among list) few q))
+      both_ways (is_kplex 128 k a (members group)) e (ap (is_kplex 128 k a) same ∙ (kplex_decides 128 k a (among list) below).1 (plex_beyond n k a (among list) few q))

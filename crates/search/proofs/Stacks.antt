@@ -2,7 +2,7 @@
 use Rattle.std.proofs.Common.{◌≡◌, ℕ, zero, suc, ◌+◌, ◌<◌, ◌≤◌, Bool, true, false, not, ◌&&◌, ◌||◌, ltb, leb, ◌⊎◌, List, sym, ap, subst, inl, inr, arith}
 use Rattle.std.proofs.lemmas.Bool.Decides.{nat_tests}
 use Rattle.std.proofs.lemmas.Bool.{cases_lt, cases_eq, or_cases, leb-true, le-leb}
-use Rattle.plex.specs.Sets.{card, Within, is_kplex_lem}
+use Rattle.plex.specs.Sets.{card, Within, is_kplex}
 use Rattle.plex.specs.Words.{holds}
 use Rattle.plex.proofs.Decide.{kplex_decides}
 use Rattle.tables.specs.Bits.{bit_agrees}
@@ -57,8 +57,8 @@ module _ (bs : List Branch) (count n k : ℕ) (rows : List (List ℕ)) (group : 
           candidates = λ i t. inside (candidates_at bs j i) n i j count l (candidates j i) t;
           apart = λ i t. not_both (candidates_at bs j i) (chosen_at bs j i) j count l (apart j i) t;
           plex =
-              elim (or_cases (is_kplex_lem n k (bit_agrees rows) (chosen_at bs j)) (leb (card n (chosen_at bs j)) (card n (holds group)))
-              (small (is_kplex_lem n k (bit_agrees rows) (chosen_at bs j)) (leb (card n (chosen_at bs j)) (card n (holds group))) j count l (plex j))) [
+              elim (or_cases (is_kplex n k (bit_agrees rows) (chosen_at bs j)) (leb (card n (chosen_at bs j)) (card n (holds group)))
+              (small (is_kplex n k (bit_agrees rows) (chosen_at bs j)) (leb (card n (chosen_at bs j)) (card n (holds group))) j count l (plex j))) [
                 | inl e ↦ inl ((kplex_decides n k (bit_agrees rows) (chosen_at bs j) within).0 e)
                 | inr e ↦ inr (leb-true (card n (chosen_at bs j)) (card n (holds group)) e)
               ];
@@ -147,9 +147,9 @@ module _ (bs : List Branch) (count n k : ℕ) (rows : List (List ℕ)) (group : 
           | inl l ↦
               (let b = sound_at count branches j l in
               elim b.plex [
-                | inl q ↦ either_not (is_kplex_lem n k (bit_agrees rows) (chosen_at bs j)) (leb (card n (chosen_at bs j)) (card n (holds group))) (ltb j count)
+                | inl q ↦ either_not (is_kplex n k (bit_agrees rows) (chosen_at bs j)) (leb (card n (chosen_at bs j)) (card n (holds group))) (ltb j count)
                     (inl ((kplex_decides n k (bit_agrees rows) (chosen_at bs j) b.chosen).1 q))
-                | inr q ↦ either_not (is_kplex_lem n k (bit_agrees rows) (chosen_at bs j)) (leb (card n (chosen_at bs j)) (card n (holds group))) (ltb j count)
+                | inr q ↦ either_not (is_kplex n k (bit_agrees rows) (chosen_at bs j)) (leb (card n (chosen_at bs j)) (card n (holds group))) (ltb j count)
                     (inr (le-leb (card n (chosen_at bs j)) (card n (holds group)) q))
               ])
           | inr l ↦ past j count _ l

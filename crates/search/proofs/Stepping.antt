@@ -2,7 +2,7 @@
 use Rattle.std.proofs.Common.{◌≡◌, ℕ, zero, suc, ◌+◌, ◌<◌, ◌≤◌, true, false, List, ◌∷◌, set, Some, None, Option, refl, subst, ap₂, inl, inr, arith}
 use Rattle.std.proofs.lemmas.List.{get_or-set_other}
 use Rattle.std.proofs.lemmas.Bool.{both_ways, or_cases}
-use Rattle.plex.specs.Sets.{Set, card, only, ◌∪◌, ◌∖◌, Within, is_kplex_lem}
+use Rattle.plex.specs.Sets.{Set, card, only, ◌∪◌, ◌∖◌, Within, is_kplex}
 use Rattle.plex.specs.Words.{holds}
 use Rattle.plex.proofs.Count.{heredity, card_none}
 use Rattle.plex.proofs.Decide.{kplex_decides}
@@ -74,11 +74,11 @@ module _ (s : State) (f : Formed s) (bs : List Branch) (at : ℕ) (is : s.branch
   below_128 : Within 128 (S ∪ C)
   below_128 i t = omega (arith, within_both i t, f.few)
 
-  whole : is_kplex_lem 128 s.k s.table (S ∪ C) ≡ true → WholePlex s S C
+  whole : is_kplex 128 s.k s.table (S ∪ C) ≡ true → WholePlex s S C
   whole e = plex_within n f.few s.k s.table (S ∪ C) within_both ((kplex_decides 128 s.k s.table (S ∪ C) below_128).0 e)
 
-  not_whole : is_kplex_lem 128 s.k s.table (S ∪ C) ≡ false → WholePlex s S C → ⊥
-  not_whole e q = both_ways (is_kplex_lem 128 s.k s.table (S ∪ C)) e ((kplex_decides 128 s.k s.table (S ∪ C) below_128).1 (plex_beyond n s.k s.table (S ∪ C) f.few q))
+  not_whole : is_kplex 128 s.k s.table (S ∪ C) ≡ false → WholePlex s S C → ⊥
+  not_whole e q = both_ways (is_kplex 128 s.k s.table (S ∪ C)) e ((kplex_decides 128 s.k s.table (S ∪ C) below_128).1 (plex_beyond n s.k s.table (S ∪ C) f.few q))
 
   within_128 : Within 128 C
   within_128 i t = omega (arith, within_C i t, f.few)

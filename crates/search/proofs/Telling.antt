@@ -7,7 +7,7 @@ use Rattle.plex.specs.Words.{holds}
 use Rattle.plex.proofs.Count.{card_beyond}
 use Rattle.tables.specs.Bits.{bit_agrees}
 use Rattle.branch.specs.declared.branches.Branch.{Branch}
-use Rattle.searching.specs.States.{branch, widest, steps_for_lem, steps_over, none_open, capped}
+use Rattle.searching.specs.States.{branch, widest, steps_for, steps_over, none_open, capped}
 use Rattle.searching.specs.Sound.{SoundBranch}
 use Rattle.searching.proofs.Branches.{stacked_few, capped_sum}
 use Rattle.held.specs.Groups.{held_set}
@@ -58,12 +58,12 @@ widest_more n bs m size most wide most' e f g =
     omega arith
 
 pub steps_more : (n : ℕ) (bs : List Branch) (m left own left' size : ℕ) → left ≡ capped (steps_over n (opened bs m)) → size ≡ card n (candidates_at bs m) →
-    own ≡ capped (steps_for_lem size) → left' ≡ capped (left + own) → left' ≡ capped (steps_over n (opened bs (m + 1)))
+    own ≡ capped (steps_for size) → left' ≡ capped (left + own) → left' ≡ capped (steps_over n (opened bs (m + 1)))
 steps_more n bs m left own left' size e f g h =
-    let own' : own ≡ capped (steps_for_lem (card n (candidates_at bs m))) = g ∙ ap (λ x. capped (steps_for_lem x)) f in
-    let more : steps_over n (opened bs (m + 1)) ≡ steps_for_lem (card n (candidates_at bs m)) + steps_over n (opened bs m) =
+    let own' : own ≡ capped (steps_for (card n (candidates_at bs m))) = g ∙ ap (λ x. capped (steps_for x)) f in
+    let more : steps_over n (opened bs (m + 1)) ≡ steps_for (card n (candidates_at bs m)) + steps_over n (opened bs m) =
     ap (λ x. steps_over n (opened bs x)) (add-one m) in
-    omega (arith, capped_sum (steps_for_lem (card n (candidates_at bs m))) (steps_over n (opened bs m)))
+    omega (arith, capped_sum (steps_for (card n (candidates_at bs m))) (steps_over n (opened bs m)))
 
 pub none_test : (bs : List Branch) (m : ℕ) → eqb m 0 ≡ none_open (opened bs m)
 none_test bs zero = refl

@@ -1,7 +1,7 @@
 -- What making a search answers, and what it leaves. Assumes nothing.
 use Rattle.std.specs.Prelude.{◌≡◌, ℕ, ◌+◌, ◌-◌, ◌^◌, ◌<◌, ◌≤◌, List, Ok, Err, Result}
 use Rattle.plex.specs.Meaning.{Meaning}
-use Rattle.coprune.specs.Answers.{pair_places_lem, MayHoldAnything}
+use Rattle.coprune.specs.Answers.{pair_places, MayHoldAnything}
 use Rattle.ceiling.specs.Rules.{Number}
 use Rattle.searching.specs.States.{ceiling, settled, held_size}
 use Rattle.searching.specs.Calls.{Does}
@@ -22,7 +22,7 @@ number TooFewPairPlaces = 43
 abbrev pub Refuses : Meaning → ℕ → ℕ → ℕ → MakeRefusal → Type 0
 Refuses m k mark_room pair_room KOutOfRange = 1 ≤ k → k ≤ 16 → ⊥
 Refuses m k mark_room pair_room TooFewMarkPlaces = (1 ≤ k) × (k ≤ 16) × (mark_room < m.marks)
-Refuses m k mark_room pair_room TooFewPairPlaces = (1 ≤ k) × (k ≤ 16) × (m.marks ≤ mark_room) × (pair_room < pair_places_lem m)
+Refuses m k mark_room pair_room TooFewPairPlaces = (1 ≤ k) × (k ≤ 16) × (m.marks ≤ mark_room) × (pair_room < pair_places m)
 
 -- the law, of every list of calls on the search s itself: Does says what the calls do, on what searches mean
 abbrev pub KeepsTheLaw : {R : Type 0} → (R → Number) → Meaning → ℕ → Search R → Type 0
@@ -35,7 +35,7 @@ pub record Makes {R : Type 0} (number : R → Number) (m : Meaning) (k : ℕ) (r
   pub low : 1 ≤ k
   pub high : k ≤ 16
   pub marks : m.marks ≤ mark_room
-  pub pairs : pair_places_lem m ≤ pair_room
+  pub pairs : pair_places m ≤ pair_room
   pub rule_kept : s.rule ≡ rule
   pub made : Made m k (number rule) (view number s)
   pub law : KeepsTheLaw number m k s

@@ -1,6 +1,6 @@
 -- The open branches as they stand in a table, the newest last, and what holds of them. Each test is false in every search. Assumes nothing.
 use Rattle.std.specs.Prelude.{ℕ, ◌+◌, Bool, not, ◌&&◌, ◌||◌, List, [], nat_le, nat_lt, slice_index_or}
-use Rattle.plex.specs.Sets.{Set, card, is_kplex_lem}
+use Rattle.plex.specs.Sets.{Set, card, is_kplex}
 use Rattle.plex.specs.Words.{holds}
 use Rattle.tables.specs.Bits.{bit_agrees}
 use Rattle.branch.specs.declared.branches.Branch.{Branch}
@@ -30,7 +30,7 @@ in_both bs count j i = nat_lt j count && (candidates_at bs j i && chosen_at bs j
 -- the chosen marks of branch j are no k-plex, and more than the group held
 unfoldable pub too_large : List Branch → ℕ → ℕ → ℕ → List (List ℕ) → List ℕ → ℕ → Bool
 too_large bs count n k rows group j =
-    nat_lt j count && not (is_kplex_lem n k (bit_agrees rows) (chosen_at bs j) || nat_le (card n (chosen_at bs j)) (card n (holds group)))
+    nat_lt j count && not (is_kplex n k (bit_agrees rows) (chosen_at bs j) || nat_le (card n (chosen_at bs j)) (card n (holds group)))
 
 -- branch j, which is not the newest, has all marks as candidates, or fewer than the one above it, or only as many, and
 -- that one is not the newest

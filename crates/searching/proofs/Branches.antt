@@ -4,7 +4,7 @@ use Rattle.plex.specs.Sets.{Set, Agreement, TwoWay, NoSelf, card, ◌∩◌, Kpl
 use Rattle.plex.proofs.Count.{card_le, card_beyond, heredity}
 use Rattle.ceiling.specs.Rules.{Number, reply, Between, Lawful}
 use Rattle.ceiling.proofs.Lawful.{between_size}
-use Rattle.searching.specs.States.{Branch, widest, steps_for_lem, steps_over, none_open, capped}
+use Rattle.searching.specs.States.{Branch, widest, steps_for, steps_over, none_open, capped}
 use Rattle.searching.specs.Sound.{InSome, SoundBranches, Widening, Stacked}
 
 -- a k-plex among n marks is one among 128
@@ -60,28 +60,28 @@ in_widest n k a (b ∷ bs) p (inl w) = omega (arith, between_size n b.chosen b.c
 in_widest n k a (b ∷ bs) p (inr o) = omega (arith, in_widest n k a bs p o)
 in_widest n k a [] p o = absurd o
 
-pub steps_for_is : (c : ℕ) → steps_for_lem c + 1 ≡ 2 ^ (c + 1)
-unfolding steps_for_lem
+pub steps_for_is : (c : ℕ) → steps_for c + 1 ≡ 2 ^ (c + 1)
+unfolding steps_for
 steps_for_is zero = refl
 steps_for_is (suc c) = omega (arith, steps_for_is c, pow-suc 2 (c + 1), ap (λ x. 2 ^ x) e)
   where
     e : suc c + 1 ≡ suc (c + 1)
     e = omega arith
 
-pub steps_for_some : (c : ℕ) → 1 ≤ steps_for_lem c
-unfolding steps_for_lem
+pub steps_for_some : (c : ℕ) → 1 ≤ steps_for c
+unfolding steps_for
 steps_for_some zero = omega arith
 steps_for_some (suc c) = omega arith
 
-pub steps_for_mono : (c d : ℕ) → c ≤ d → steps_for_lem c ≤ steps_for_lem d
-unfolding steps_for_lem
+pub steps_for_mono : (c d : ℕ) → c ≤ d → steps_for c ≤ steps_for d
+unfolding steps_for
 steps_for_mono zero d h = steps_for_some d
 steps_for_mono (suc c) zero h = let z : ⊥ = omega arith in absurd z
 steps_for_mono (suc c) (suc d) h = omega (arith, steps_for_mono c d (omega arith))
 
-pub steps_for_more : (c : ℕ) → steps_for_lem (1 + c) ≡ 1 + 2 * steps_for_lem c
-unfolding steps_for_lem
-steps_for_more c = ap steps_for_lem (one-add c)
+pub steps_for_more : (c : ℕ) → steps_for (1 + c) ≡ 1 + 2 * steps_for c
+unfolding steps_for
+steps_for_more c = ap steps_for (one-add c)
 
 -- Counts that stop at the cap, for code above this theory: capping on the way or at the end gives the same.
 pub capped_for : (x : ℕ) → capped (1 + 2 * capped x) ≡ capped (1 + 2 * x)

@@ -7,8 +7,8 @@ use Rattle.pruning.specs.Pruned.{ends_needed, shared_needed, agreements, sum_to}
 use Rattle.pruning.specs.Rounds.{rounds}
 use Rattle.pruning.proofs.Laws.{co_pruning}
 use Rattle.ceiling.specs.Rules.{Number}
-use Rattle.ceiling.specs.Formulas.{by_degree_lem, by_pair_lem}
-use Rattle.searching.specs.States.{State, held_size, ceiling, steps_for_lem, steps_left, settled}
+use Rattle.ceiling.specs.Formulas.{by_degree, by_pair}
+use Rattle.searching.specs.States.{State, held_size, ceiling, steps_for, steps_left, settled}
 use Rattle.searching.specs.Calls.{Call, Step, Run, Offer, Answer, run_limit, Does}
 use Rattle.searching.specs.Computed.{peel, trim, next, run, make, answer, leaves}
 use Rattle.searching.specs.Examples.{pentagon, eight, eight_sparse, Ends, three_apart, no_marks, both_rules, Looks, Gets, Leaves, PentagonTwo, PentagonOne, WorkedExamples}
@@ -24,15 +24,15 @@ unfolding peel least card rising
 held_two = refl
 
 left_two : steps_left two ≡ 63
-unfolding peel least card rounds steps_for_lem
+unfolding peel least card rounds steps_for
 left_two = refl
 
 one_two : steps_left (next two) ≡ 62
-unfolding peel least card rounds steps_for_lem next trim all_below by_degree_lem by_pair_lem
+unfolding peel least card rounds steps_for next trim all_below by_degree by_pair
 one_two = refl
 
 held_later : rising (run 5 two).after.marks (run 5 two).after.held ≡ 2 ∷ 3 ∷ 4 ∷ []
-unfolding peel least card rounds rising next run trim all_below by_degree_lem by_pair_lem
+unfolding peel least card rounds rising next run trim all_below by_degree by_pair
 held_later = refl
 
 high_two : ceiling two ≡ 4
@@ -40,7 +40,7 @@ unfolding peel least card rounds
 high_two = refl
 
 high_later : ceiling (run 5 two).after ≡ 3
-unfolding peel least card rounds next run trim all_below by_degree_lem by_pair_lem
+unfolding peel least card rounds next run trim all_below by_degree by_pair
 high_later = refl
 
 open_two : settled two ≡ false
@@ -48,19 +48,19 @@ unfolding peel least card
 open_two = refl
 
 count_four : (run 4 two).count ≡ 4
-unfolding peel least card rounds next run trim all_below by_degree_lem by_pair_lem
+unfolding peel least card rounds next run trim all_below by_degree by_pair
 count_four = refl
 
 open_four : settled (run 4 two).after ≡ false
-unfolding peel least card rounds next run trim all_below by_degree_lem by_pair_lem
+unfolding peel least card rounds next run trim all_below by_degree by_pair
 open_four = refl
 
 count_five : (run 5 two).count ≡ 5
-unfolding peel least card rounds next run trim all_below by_degree_lem by_pair_lem
+unfolding peel least card rounds next run trim all_below by_degree by_pair
 count_five = refl
 
 done_five : settled (run 5 two).after ≡ true
-unfolding peel least card rounds next run trim all_below by_degree_lem by_pair_lem
+unfolding peel least card rounds next run trim all_below by_degree by_pair
 done_five = refl
 
 refuses_small : Gets (answer two (Offer (0 ∷ 1 ∷ 2 ∷ []))) 55
@@ -75,22 +75,22 @@ abbrev dense : State
 dense = make 8 2 eight.agrees both_rules
 
 count_dense : (run run_limit dense).count ≡ 9
-unfolding peel least card rounds next run trim all_below by_degree_lem by_pair_lem
+unfolding peel least card rounds next run trim all_below by_degree by_pair
 count_dense = refl
 
 looks_dense : Looks (run run_limit dense).after (0 ∷ 1 ∷ 2 ∷ 4 ∷ 7 ∷ []) 5 true
-unfolding peel least card rounds rising next run trim all_below by_degree_lem by_pair_lem
+unfolding peel least card rounds rising next run trim all_below by_degree by_pair
 looks_dense = record { holds = refl; high_is = refl; done_is = refl }
 
 abbrev sparse : State
 sparse = make 8 3 eight_sparse.agrees both_rules
 
 count_sparse : (run run_limit sparse).count ≡ 11
-unfolding peel least card rounds next run trim all_below by_degree_lem by_pair_lem
+unfolding peel least card rounds next run trim all_below by_degree by_pair
 count_sparse = refl
 
 looks_sparse : Looks (run run_limit sparse).after (0 ∷ 1 ∷ 2 ∷ 3 ∷ []) 4 true
-unfolding peel least card rounds rising next run trim all_below by_degree_lem by_pair_lem
+unfolding peel least card rounds rising next run trim all_below by_degree by_pair
 looks_sparse = record { holds = refl; high_is = refl; done_is = refl }
 
 abbrev one : State
@@ -109,15 +109,15 @@ unfolding peel least card
 open_one = refl
 
 held_then : rising (next one).marks (next one).held ≡ 3 ∷ 4 ∷ []
-unfolding peel least card rounds rising next trim all_below by_degree_lem by_pair_lem
+unfolding peel least card rounds rising next trim all_below by_degree by_pair
 held_then = refl
 
 high_then : ceiling (next one) ≡ 2
-unfolding peel least card rounds next trim all_below by_degree_lem by_pair_lem
+unfolding peel least card rounds next trim all_below by_degree by_pair
 high_then = refl
 
 done_then : settled (next one) ≡ true
-unfolding peel least card rounds next trim all_below by_degree_lem by_pair_lem
+unfolding peel least card rounds next trim all_below by_degree by_pair
 done_then = refl
 
 -- what a call does in a search just made is what was computed

@@ -4,7 +4,7 @@ use Rattle.std.proofs.lemmas.Bool.Decides.{nat_tests}
 use Rattle.std.proofs.lemmas.Bool.{cases_lt, cases_Bool, and_parts}
 use Rattle.plex.specs.Sets.{Set, Agreement, card, ◌∩◌, ◌∪◌, ◌∖◌, only, ◌⊆◌, Kplex, Within}
 use Rattle.plex.proofs.Count.{card_mono, card_less, card_le, card_or, card_none, card_some}
-use Rattle.searching.specs.States.{Branch, branch, State, moved, held_size, steps_for_lem, steps_over, steps_left, capped}
+use Rattle.searching.specs.States.{Branch, branch, State, moved, held_size, steps_for, steps_over, steps_left, capped}
 use Rattle.searching.specs.Steps.{tight, SplitMark, Newest, Hopeless, Stepped}
 use Rattle.searching.specs.Steps.Stepped.{closes, takes, splits}
 use Rattle.searching.specs.Sound.{SoundBranch, SoundBranches, Stacked, Formed}
@@ -110,7 +110,7 @@ module _ (s : State) (o : Formed s) (b : Branch) (older : List Branch) (c : Set)
         arith,
         ap (steps_over s.marks) w.newest,
         steps_for_mono (card s.marks c) (card s.marks b.candidates) fewer,
-        ap steps_for_lem (card_less s.marks c u (within u m) m),
+        ap steps_for (card_less s.marks c u (within u m) m),
         steps_for_more (card s.marks (c ∖ only u)),
       )
 

@@ -2,7 +2,7 @@
 use Rattle.std.proofs.Common.{◌≡◌, ℕ, zero, suc, ◌+◌, ◌<◌, ◌≤◌, Bool, true, false, ◌&&◌, eqb, ltb, leb, ◌⊎◌, List, [], ◌∷◌, length, get_or, Ok, Err, Result, sym, refl, ap, ◌∙◌, inl, inr, arith}
 use Rattle.std.proofs.lemmas.Bool.Decides.{nat_tests}
 use Rattle.std.proofs.lemmas.Bool.{cases_Bool, leb-true, leb-false, ltb-true, ltb-false, le-leb, lt-leb, lt-ltb, le-ltb, and_parts, and_from, or_cases, eqb-true, true≢false, false≢true}
-use Rattle.plex.specs.Sets.{card, only, ◌∩◌, Within, is_kplex_lem, among}
+use Rattle.plex.specs.Sets.{card, only, ◌∩◌, Within, is_kplex, among}
 use Rattle.plex.proofs.Count.{card_or, card_only, card_none}
 use Rattle.plex.proofs.Decide.{kplex_decides}
 use Rattle.searching.specs.declared.refusal.SearchRefusal.{SearchRefusal}
@@ -97,10 +97,10 @@ pub rising_in : (n : ℕ) (list : List ℕ) → RisingMarks n list → Within n 
 rising_in n list r i t = (among_from n 0 list (test_rising n list r) i t).1
 
 module _ (s : State) (list : List ℕ) where
-  plex_test : RisingMarks s.marks list → is_kplex_lem s.marks s.k s.sheet (among list) ≡ true → OffersPlex s list
+  plex_test : RisingMarks s.marks list → is_kplex s.marks s.k s.sheet (among list) ≡ true → OffersPlex s list
   plex_test r = (kplex_decides s.marks s.k s.sheet (among list) (rising_in s.marks list r)).0
 
-  test_plex : RisingMarks s.marks list → OffersPlex s list → is_kplex_lem s.marks s.k s.sheet (among list) ≡ true
+  test_plex : RisingMarks s.marks list → OffersPlex s list → is_kplex s.marks s.k s.sheet (among list) ≡ true
   test_plex r = (kplex_decides s.marks s.k s.sheet (among list) (rising_in s.marks list r)).1
 
   not_true : (b : Bool) (P : Type 0) → (P → b ≡ true) → b ≡ false → P → ⊥
@@ -110,7 +110,7 @@ module _ (s : State) (list : List ℕ) where
   not_so b P f h = elim (cases_Bool b) [ inl t ↦ absurd (h (f t)) | inr e ↦ e ]
 
   by_tests : (a b c d : Bool) → leb (length list) s.marks ≡ a → is_rising s.marks 0 list ≡ b →
-      is_kplex_lem s.marks s.k s.sheet (among list) ≡ c → ltb (held_size s) (card s.marks (among list)) ≡ d →
+      is_kplex s.marks s.k s.sheet (among list) ≡ c → ltb (held_size s) (card s.marks (among list)) ≡ d →
       Does s (Offer list) (offered a b c d) (after_offer s list (offered a b c d))
   by_tests false b c d ea eb ec ed = (leb-false (length list) s.marks ea, refl)
   by_tests true false c d ea eb ec ed =
@@ -138,7 +138,7 @@ module _ (s : State) (list : List ℕ) where
 
   -- what the four tests say is what the offer answers
   as_told : (a b c d : Bool) → leb (length list) s.marks ≡ a → is_rising s.marks 0 list ≡ b →
-      is_kplex_lem s.marks s.k s.sheet (among list) ≡ c → ltb (held_size s) (card s.marks (among list)) ≡ d → offered a b c d ≡ offer s list
+      is_kplex s.marks s.k s.sheet (among list) ≡ c → ltb (held_size s) (card s.marks (among list)) ≡ d → offered a b c d ≡ offer s list
   as_told a b c d ea eb ec ed = sym (λ i. offered (ea i) (eb i) (ec i) (ed i))
 
   refused : (r : Result ℕ SearchRefusal) (t : State) → after_offer s list r ≡ s → r ≡ offer s list → t ≡ s →

@@ -1,7 +1,7 @@
 -- From a well-formed search that is not settled there is one step.
 use Rattle.std.proofs.Common.{◌≡◌, ℕ, ◌+◌, Bool, true, false, leb, List, [], ◌∷◌, Some, None, Option, sym, refl, ap, ◌∙◌, subst, ap₂, inl, inr, arith}
 use Rattle.std.proofs.lemmas.Bool.{cases_Bool, leb-true, le-leb, or_cases, or_left, or_right, true≢false}
-use Rattle.plex.specs.Sets.{Set, card, ◌∪◌, Within, is_kplex_lem}
+use Rattle.plex.specs.Sets.{Set, card, ◌∪◌, Within, is_kplex}
 use Rattle.plex.proofs.Count.{card_le, card_none, heredity}
 use Rattle.plex.proofs.Decide.{kplex_decides}
 use Rattle.ceiling.specs.Rules.{reply}
@@ -62,15 +62,15 @@ module _ (s : State) (o : Formed s) (b : Branch) (older : List Branch) (e : s.br
         next_is ∙ ap (step_trimmed s b older)
         (trim_unique s.marks s.k s.table (held_size s) b.chosen b.candidates trimmed c trimmed_is w.trimmed)
 
-    whole_from : is_kplex_lem s.marks s.k s.table (b.chosen ∪ c) ≡ true → WholePlex s b.chosen c
+    whole_from : is_kplex s.marks s.k s.table (b.chosen ∪ c) ≡ true → WholePlex s b.chosen c
     whole_from = (kplex_decides s.marks s.k s.table (b.chosen ∪ c) all_within).0
 
-    whole_to : WholePlex s b.chosen c → is_kplex_lem s.marks s.k s.table (b.chosen ∪ c) ≡ true
+    whole_to : WholePlex s b.chosen c → is_kplex s.marks s.k s.table (b.chosen ∪ c) ≡ true
     whole_to = (kplex_decides s.marks s.k s.table (b.chosen ∪ c) all_within).1
 
-    whole_not : (WholePlex s b.chosen c → ⊥) → is_kplex_lem s.marks s.k s.table (b.chosen ∪ c) ≡ false
+    whole_not : (WholePlex s b.chosen c → ⊥) → is_kplex s.marks s.k s.table (b.chosen ∪ c) ≡ false
     whole_not h =
-        elim (cases_Bool (is_kplex_lem s.marks s.k s.table (b.chosen ∪ c))) [ inl t ↦ absurd (h (whole_from t)) | inr f ↦ f ]
+        elim (cases_Bool (is_kplex s.marks s.k s.table (b.chosen ∪ c))) [ inl t ↦ absurd (h (whole_from t)) | inr f ↦ f ]
 
     -- a branch without candidates is hopeless, or its chosen marks are a k-plex
     no_candidate : ((i : ℕ) → c i ≡ false) → (Hopeless s b.chosen c → ⊥) → (WholePlex s b.chosen c → ⊥) → ⊥
@@ -89,7 +89,7 @@ module _ (s : State) (o : Formed s) (b : Branch) (older : List Branch) (e : s.br
     split_is h q (Some u) f =
         splits b older c u w h q (subst (PickedAt s.marks s.k s.table b.chosen c) f (pick_is s.marks s.k s.table b.chosen c within))
 
-    decide_is : (x y : Bool) → is_hopeless s b.chosen c ≡ x → is_kplex_lem s.marks s.k s.table (b.chosen ∪ c) ≡ y →
+    decide_is : (x y : Bool) → is_hopeless s b.chosen c ≡ x → is_kplex s.marks s.k s.table (b.chosen ∪ c) ≡ y →
         Stepped s (decide_step s b c older x y)
     decide_is true y f g = closes b older c w (hopeless_from s b.chosen c f)
     decide_is false true f g = takes b older c w (λ h. true≢false (sym (hopeless_to s b.chosen c h) ∙ f)) (whole_from g)
@@ -99,7 +99,7 @@ module _ (s : State) (o : Formed s) (b : Branch) (older : List Branch) (e : s.br
 
     closes_is : Hopeless s b.chosen c → next s ≡ moved s s.held older (capped (s.taken + 1))
     closes_is h =
-        next_with ∙ ap (λ x. decide_step s b c older x (is_kplex_lem s.marks s.k s.table (b.chosen ∪ c))) (hopeless_to s b.chosen c h)
+        next_with ∙ ap (λ x. decide_step s b c older x (is_kplex s.marks s.k s.table (b.chosen ∪ c))) (hopeless_to s b.chosen c h)
 
     takes_is : (Hopeless s b.chosen c → ⊥) → WholePlex s b.chosen c → next s ≡ moved s (b.chosen ∪ c) older (capped (s.taken + 1))
     takes_is h q = next_with ∙ ap₂ (decide_step s b c older) (hopeless_not s b.chosen c h) (whole_to q)

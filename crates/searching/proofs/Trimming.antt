@@ -3,7 +3,7 @@ use Rattle.std.proofs.Common.{◌≡◌, ℕ, zero, suc, ◌+◌, ◌<◌, ◌�
 use mathlib.Core.Path.{fun_ext}
 use Rattle.std.proofs.lemmas.Bool.Decides.{nat_tests}
 use Rattle.std.proofs.lemmas.Bool.{cases_lt, cases_Bool, cases_eq, ltb-true, lt-ltb, and_parts, and_from}
-use Rattle.plex.specs.Sets.{Set, Agreement, card, ◌∩◌, ◌∪◌, ◌∖◌, only, ◌⊆◌, Kplex, Within, is_kplex_lem}
+use Rattle.plex.specs.Sets.{Set, Agreement, card, ◌∩◌, ◌∪◌, ◌∖◌, only, ◌⊆◌, Kplex, Within, is_kplex}
 use Rattle.plex.proofs.Count.{card_mono, card_strict, card_less, heredity}
 use Rattle.plex.proofs.Decide.{kplex_decides}
 use Rattle.ceiling.specs.Rules.{Between}
@@ -50,14 +50,14 @@ module _ (n k : ℕ) (a : Agreement) (h : ℕ) (s : Set) (w : Within n s) where
   round_keeps : (c e : Set) → Within n c → Fits n k a h s e → e ⊆ c → e ⊆ round c
   round_keeps c e b f u v t =
       and_from (c v) _ (u v t)
-      (and_from (is_kplex_lem n k a (s ∪ only v)) _ ((kplex_decides n k a (s ∪ only v) (with_one v (b v (u v t)))).1 (f v t).0)
+      (and_from (is_kplex n k a (s ∪ only v)) _ ((kplex_decides n k a (s ∪ only v) (with_one v (b v (u v t)))).1 (f v t).0)
       (lt-ltb h (k + card n ((s ∪ c) ∩ a v)) (omega (arith, (f v t).1, card_mono n ((s ∪ e) ∩ a v) ((s ∪ c) ∩ a v) (λ i. let z = u i in grind arith)))))
 
   -- a round that drops nothing found all fit
   round_fits : (c : Set) → Within n c → c ⊆ round c → Fits n k a h s (round c)
   round_fits c b u v t =
       let x = and_parts (c v) _ t in
-      let y = and_parts (is_kplex_lem n k a (s ∪ only v)) _ x.1 in (
+      let y = and_parts (is_kplex n k a (s ∪ only v)) _ x.1 in (
         (kplex_decides n k a (s ∪ only v) (with_one v (b v x.0))).0 y.0,
         omega (arith, ltb-true h (k + card n ((s ∪ c) ∩ a v)) y.1, card_mono n ((s ∪ c) ∩ a v) ((s ∪ round c) ∩ a v) (λ i. let z = u i in grind arith)),
       )

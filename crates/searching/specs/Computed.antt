@@ -1,6 +1,6 @@
 -- The same by computing, for worked examples: each is proved to be what the definitions say. Assumes nothing.
 use Rattle.std.specs.Prelude.{ℕ, zero, suc, ◌+◌, ◌-◌, ◌*◌, max, Bool, true, false, not, ◌&&◌, ◌||◌, List, [], ◌∷◌, ◌++◌, length, drop, Some, None, Ok, Err, Option, Result, nat_le, nat_lt}
-use Rattle.plex.specs.Sets.{Set, Agreement, one_if, card, none, only, below, ◌∪◌, ◌∖◌, is_kplex_lem, rising, among}
+use Rattle.plex.specs.Sets.{Set, Agreement, one_if, card, none, only, below, ◌∪◌, ◌∖◌, is_kplex, rising, among}
 use Rattle.plex.specs.Least.{least}
 use Rattle.pruning.specs.Pruned.{ends_needed, shared_needed, left_marks}
 use Rattle.pruning.specs.Rounds.{rounds}
@@ -40,7 +40,7 @@ peel zero n k agrees r = record { group = r; top = 0 }
 peel (suc m) n k agrees r = peel_at (peel m n k agrees) n k agrees r (least n r (agreements_inside n agrees r))
 
 abbrev pub trim_round : ℕ → ℕ → Agreement → ℕ → Set → Set → Set
-trim_round n k agrees h s c v = c v && (is_kplex_lem n k agrees (s ∪ only v) && nat_lt h (k + agreements_inside n agrees (s ∪ c) v))
+trim_round n k agrees h s c v = c v && (is_kplex n k agrees (s ∪ only v) && nat_lt h (k + agreements_inside n agrees (s ∪ c) v))
 
 -- trimming by m rounds, each of which drops all that do not fit
 unfoldable pub trim : ℕ → ℕ → ℕ → Agreement → ℕ → Set → Set → Set
@@ -75,7 +75,7 @@ is_hopeless s chosen c =
 
 abbrev pub step_trimmed : State → Branch → List Branch → Set → State
 step_trimmed s b older c =
-    decide_step s b c older (is_hopeless s b.chosen c) (is_kplex_lem s.marks s.k s.table (b.chosen ∪ c))
+    decide_step s b c older (is_hopeless s b.chosen c) (is_kplex s.marks s.k s.table (b.chosen ∪ c))
 
 abbrev pub step_at : State → List Branch → State
 step_at s [] = s
@@ -118,7 +118,7 @@ after_offer s list (Err e) = s
 
 abbrev pub offer : State → List ℕ → Result ℕ SearchRefusal
 offer s list =
-    offered (nat_le (length list) s.marks) (is_rising s.marks 0 list) (is_kplex_lem s.marks s.k s.sheet (among list))
+    offered (nat_le (length list) s.marks) (is_rising s.marks 0 list) (is_kplex s.marks s.k s.sheet (among list))
     (nat_lt (held_size s) (card s.marks (among list)))
 
 abbrev pub run_allowed : ℕ → Bool

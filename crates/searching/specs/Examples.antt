@@ -6,7 +6,7 @@ use Rattle.plex.specs.Meaning.{Meaning, meaning_by}
 use Rattle.plex.specs.Distance.{Sighting, sighted_alike}
 use Rattle.pruning.specs.Pruned.{Largest, ends_needed, shared_needed, agreements}
 use Rattle.ceiling.specs.Rules.{Number, smaller}
-use Rattle.ceiling.specs.Formulas.{by_degree_lem, by_pair_lem}
+use Rattle.ceiling.specs.Formulas.{by_degree, by_pair}
 use Rattle.searching.specs.declared.refusal.SearchRefusal.{SearchRefusal}
 use Rattle.searching.specs.States.{State, held_size, ceiling, steps_left, settled, cap}
 use Rattle.searching.specs.Calls.{Step, Run, Offer, number, run_limit, Does}
@@ -43,7 +43,7 @@ no_marks = meaning_by 0 (leb-true 0 128 refl) (λ i j. false)
 
 -- the smaller of the degree rule and the pair rule
 abbrev pub both_rules : Number
-both_rules = smaller (by_degree_lem 128) (by_pair_lem 128)
+both_rules = smaller (by_degree 128) (by_pair 128)
 
 -- the group held, the ceiling, and whether the search is settled
 pub record Looks (s : State) (group : List ℕ) (high : ℕ) (done : Bool) : Type 0 where

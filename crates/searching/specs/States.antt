@@ -60,13 +60,13 @@ abbrev pub ceiling : State → ℕ
 ceiling s = min s.top (max (held_size s) (widest s.marks s.branches))
 
 -- how many steps a branch with c candidates can take, with all branches that come of it
-unfoldable pub steps_for_lem : ℕ → ℕ
-steps_for_lem zero = 1
-steps_for_lem (suc c) = 1 + 2 * steps_for_lem c
+unfoldable pub steps_for : ℕ → ℕ
+steps_for zero = 1
+steps_for (suc c) = 1 + 2 * steps_for c
 
 abbrev pub steps_over : ℕ → List Branch → ℕ
 steps_over n [] = 0
-steps_over n (b ∷ bs) = steps_for_lem (card n b.candidates) + steps_over n bs
+steps_over n (b ∷ bs) = steps_for (card n b.candidates) + steps_over n bs
 
 -- how many steps are left at most, exactly
 abbrev pub steps_left : State → ℕ

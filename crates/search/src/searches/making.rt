@@ -1,6 +1,6 @@
 // Making a search.
 ghost use Rattle.std.specs.Prelude.{◌≡◌, ◌≤◌, length, slice_index_or};
-ghost use Rattle.coprune.specs.Answers.{pair_places_lem};
+ghost use Rattle.coprune.specs.Answers.{pair_places};
 ghost use Rattle.search.specs.Stacks.{no_branch};
 ghost use Rattle.search.specs.Starting.{Starts};
 ghost use Rattle.search.specs.Making.{Making, Spaces};
@@ -80,7 +80,7 @@ fn first_state<S: Sheet>(
     mark_space: &mut [u32],
     pair_space: &mut [Pair],
 ) -> Start
-    requires { (1 ≤ k) × ((k ≤ 16) × (((S.Sheet.meaning sheet.now).marks ≤ length mark_space.old) × (pair_places_lem (S.Sheet.meaning sheet.now) ≤ length pair_space.old))) }
+    requires { (1 ≤ k) × ((k ≤ 16) × (((S.Sheet.meaning sheet.now).marks ≤ length mark_space.old) × (pair_places (S.Sheet.meaning sheet.now) ≤ length pair_space.old))) }
     ensures made { Starts (S.Sheet.meaning sheet.now) k result }
     ensures idle { result.count ≡ 0 → (mark_space.new ≡ mark_space.old) × (pair_space.new ≡ pair_space.old) }
 {

@@ -1,6 +1,6 @@
 use Rattle.std.proofs.Common.{◌≡◌, length, sym, ap, ◌∙◌, inl, inr, arith, rules}
 use Rattle.std.proofs.lemmas.Bool.{cases_Bool}
-use Rattle.plex.specs.Sets.{card, ◌∖◌, is_kplex_lem}
+use Rattle.plex.specs.Sets.{card, ◌∖◌, is_kplex}
 use Rattle.plex.proofs.Decide.{kplex_decides}
 use Rattle.marks.specs.Members.{members}
 use Rattle.marks.proofs.Four.{holds_within}
@@ -19,7 +19,7 @@ returns-then-count-k c =
     let u = c.in-Some.u in
     let l : length c.args.set.words ≡ 4 = search rules in
     let missed : c.count.result ≡ misses 128 a s u = c.count.ensures ∙ ap (card 128) (c.minus.ensures ∙ ap (λ t. s ∖ t) c.neighbours.ensures.set) in
-    elim (cases_Bool (is_kplex_lem 128 k a s)) [
+    elim (cases_Bool (is_kplex 128 k a s)) [
       | inl t ↦
           absurd (no_plex k a s u (c.loop-u.invariant.0 u c.in-Some.ensures.1) (omega (arith, c.if-count-k.true))
           ((kplex_decides 128 k a s (holds_within c.args.set.words l)).0 t))

@@ -5,7 +5,7 @@ use Rattle.plex.proofs.Count.{card_le}
 use Rattle.marks.specs.Members.{members}
 use Rattle.marks.proofs.Four.{holds_within}
 use Rattle.tables.specs.Meanings.{bit_meaning}
-use Rattle.ceiling.specs.Formulas.{by_degree_lem}
+use Rattle.ceiling.specs.Formulas.{by_degree}
 use Rattle.ceiling.proofs.Formulas.{degree_is}
 use Rattle.rule.proofs.Deciding.{out_of_range, some_marks, degree_found}
 use Rattle.rule.proofs.degree.DegreeRuleCeilingRule.ceiling.Goals as goal
@@ -39,7 +39,7 @@ returns-in-Some c =
     let l : length c.args.chosen.words ≡ 4 = search rules in
     let some : 0 < card 128 s = some_marks (card 128 s) c.if-is_empty.ensures in
     degree_found k a s (members c.minus-others.result) (holds_within c.args.chosen.words l) (sym c.if-not-in_range.ensures) some c.in-Some.smallest c.in-Some.ensures
-    ∙ ap (by_degree_lem 128 k a s) c.minus-others.ensures
+    ∙ ap (by_degree 128 k a s) c.minus-others.ensures
 
 pub returns-in-None : goal.returns-in-None
 returns-in-None c =

@@ -4,7 +4,7 @@ use Rattle.plex.proofs.Count.{card_le}
 use Rattle.marks.specs.Members.{members}
 use Rattle.marks.proofs.Four.{holds_within}
 use Rattle.tables.specs.Meanings.{bit_meaning}
-use Rattle.ceiling.specs.Formulas.{pair_number, by_pair_lem}
+use Rattle.ceiling.specs.Formulas.{pair_number, by_pair}
 use Rattle.ceiling.proofs.Smallest.{two_unique}
 use Rattle.ceiling.proofs.Formulas.{pair_is}
 use Rattle.rule.proofs.Deciding.{out_of_range, asked_well}
@@ -39,9 +39,9 @@ returns-in-Some c =
     let others = members c.minus-others.result in
     let l : length c.args.chosen.words ≡ 4 = search rules in
     let two : 1 < card 128 s = omega (arith, c.count-else-not-in_range.ensures, c.if-count-lt2.false) in
-    two_unique s (pair_number 128 k a s others) c.smallest.result (by_pair_lem 128 k a s others) c.smallest.ensures
+    two_unique s (pair_number 128 k a s others) c.smallest.result (by_pair 128 k a s others) c.smallest.ensures
     ((pair_is 128 k a s others (holds_within c.args.chosen.words l)).smallest (asked_well k a s (sym c.if-not-in_range.ensures) c.in-Some.ensures.0) two)
-    ∙ ap (by_pair_lem 128 k a s) c.minus-others.ensures
+    ∙ ap (by_pair 128 k a s) c.minus-others.ensures
 
 pub returns-in-None : goal.returns-in-None
 returns-in-None c =

@@ -6,7 +6,7 @@ use Rattle.pruning.specs.Pruned.{agreements, Largest, ends_needed, shared_needed
 use Rattle.marks.specs.Members.{members}
 use Rattle.marks.proofs.First.{zeros_none}
 use Rattle.tables.specs.Meanings.{bit_meaning}
-use Rattle.coprune.specs.Answers.{pair_places_lem, Remains}
+use Rattle.coprune.specs.Answers.{pair_places, Remains}
 use Rattle.searching.specs.First.{Peels}
 use Rattle.search.specs.View.{opened}
 use Rattle.search.proofs.Made.{accepted, one_open, group_count, made_open, made_done}
@@ -34,7 +34,7 @@ returns g c =
           (let table' = w.co_prune.new.sheet in
           let left' = w.co_prune.new.left in
           let more : card 128 (members held) < top = omega (arith, floor, w.if-floor-first.true) in
-          let pairs : pair_places_lem (bit_meaning copy) ≤ length c.args.pair_space.now = omega (arith, ap₂ agreements marks agrees, c.requires.1.1.1) in
+          let pairs : pair_places (bit_meaning copy) ≤ length c.args.pair_space.now = omega (arith, ap₂ agreements marks agrees, c.requires.1.1.1) in
           let remains : Remains (bit_meaning copy) k c.count-floor.result (bit_meaning table') (members left') =
           accepted (bit_meaning copy) k c.count-floor.result (length c.args.mark_space.now) (length c.args.pair_space.now) w.co_prune.result (bit_meaning table') (members left')
           c.requires.0 c.requires.1.0 (omega (arith, marks, c.requires.1.1.0)) pairs (omega (arith, floor, card_le 128 (members held))) w.co_prune.ensures.prunes in
