@@ -1,5 +1,5 @@
 -- What four words hold: how many marks, and what becomes of them where a word is combined or a bit is set or cleared.
-use Rattle.std.proofs.Common.{◌≡◌, ℕ, zero, suc, ◌+◌, ◌-◌, ◌*◌, ◌/◌, ◌%◌, ◌^◌, ◌<◌, ◌≤◌, Bool, true, false, not, ◌&&◌, ◌||◌, eqb, List, [], ◌∷◌, length, get_or, set, sym, ap, ◌∙◌, ap₂, inl, inr, arith}
+use Rattle.std.proofs.Common.{◌≡◌, ℕ, ◌+◌, ◌-◌, ◌*◌, ◌/◌, ◌%◌, ◌^◌, ◌<◌, ◌≤◌, Bool, true, false, not, ◌&&◌, ◌||◌, eqb, List, [], ◌∷◌, length, get_or, set, sym, ap, ◌∙◌, ap₂, inl, inr, arith}
 use mathlib.Core.Path.{fun_ext}
 use lib.Bits.{bit_and, bit_or}
 use lib.Count.{ones}
@@ -27,26 +27,17 @@ holds_past ws l i h = ap (λ w. bits_of w (i % 32)) (get_or_past ws (i / 32) 0 (
 pub holds_within : (ws : List ℕ) → length ws ≡ 4 → Within 128 (holds ws)
 holds_within ws l i t = elim (cases_lt i 128) [ inl h ↦ h | inr h ↦ absurd (both_ways (holds ws i) (holds_past ws l i h) t) ]
 
--- four words, each made of two by the test t on their bits
-pub each_of_four : (t : Bool → Bool → Bool) (us vs : List ℕ) (a b c d : ℕ) → t false false ≡ false → length us ≡ 4 → length vs ≡ 4 →
-    ((i : ℕ) → i < 32 → bits_of a i ≡ t (bits_of (get_or us 0 0) i) (bits_of (get_or vs 0 0) i)) →
-    ((i : ℕ) → i < 32 → bits_of b i ≡ t (bits_of (get_or us 1 0) i) (bits_of (get_or vs 1 0) i)) →
-    ((i : ℕ) → i < 32 → bits_of c i ≡ t (bits_of (get_or us 2 0) i) (bits_of (get_or vs 2 0) i)) →
-    ((i : ℕ) → i < 32 → bits_of d i ≡ t (bits_of (get_or us 3 0) i) (bits_of (get_or vs 3 0) i)) →
-    holds (a ∷ b ∷ c ∷ d ∷ []) ≡ (λ i. t (holds us i) (holds vs i))
-each_of_four t us vs a b c d z l m p q r s = fun_ext (λ i. place (i / 32) (i % 32) (omega arith))
+-- four words, each made of the two words at its place by the test t on their bits
+pub each_of_four : (t : Bool → Bool → Bool) (us vs ws : List ℕ) → t false false ≡ false → length us ≡ 4 → length vs ≡ 4 → length ws ≡ 4 →
+    ((w : ℕ) → w < 4 → (i : ℕ) → i < 32 → bits_of (get_or ws w 0) i ≡ t (bits_of (get_or us w 0) i) (bits_of (get_or vs w 0) i)) →
+    holds ws ≡ (λ i. t (holds us i) (holds vs i))
+each_of_four t us vs ws z l m n e = fun_ext (λ i. elim (cases_lt (i / 32) 4) [ inl h ↦ e (i / 32) h (i % 32) (omega arith) | inr h ↦ past (i / 32) (i % 32) h ])
   where
-    place : (j k : ℕ) → k < 32 → bits_of (get_or (a ∷ b ∷ c ∷ d ∷ []) j 0) k ≡ t (bits_of (get_or us j 0) k) (bits_of (get_or vs j 0) k)
-    place zero k h = p k h
-    place (suc zero) k h = q k h
-    place (suc (suc zero)) k h = r k h
-    place (suc (suc (suc zero))) k h = s k h
-    place (suc (suc (suc (suc j)))) k h =
-        bits_of_none k
-        ∙ sym (ap₂ t
-        (ap (λ w. bits_of w k) (get_or_past us (suc (suc (suc (suc j)))) 0 (omega arith)) ∙ bits_of_none k)
-        (ap (λ w. bits_of w k) (get_or_past vs (suc (suc (suc (suc j)))) 0 (omega arith)) ∙ bits_of_none k)
-        ∙ z)
+    nothing : (xs : List ℕ) (w k : ℕ) → length xs ≡ 4 → 4 ≤ w → bits_of (get_or xs w 0) k ≡ false
+    nothing xs w k q h = ap (λ x. bits_of x k) (get_or_past xs w 0 (omega arith)) ∙ bits_of_none k
+
+    past : (w k : ℕ) → 4 ≤ w → bits_of (get_or ws w 0) k ≡ t (bits_of (get_or us w 0) k) (bits_of (get_or vs w 0) k)
+    past w k h = nothing ws w k n h ∙ sym (ap₂ t (nothing us w k l h) (nothing vs w k m h) ∙ z)
 
 -- bit i set, as the program writes it
 abbrev pub bit_set : List ℕ → ℕ → List ℕ

@@ -1,3 +1,4 @@
 pub mod Four
 pub mod First
 pub mod Lowering
+pub mod Filtering

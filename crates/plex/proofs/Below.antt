@@ -5,6 +5,12 @@ use Rattle.std.proofs.lemmas.Bool.{cases_eq}
 use Rattle.std.proofs.lemmas.Bool.Decides.{nat_tests}
 use Rattle.plex.specs.Sets.{Set, none, only, below, ◌∩◌, ◌∪◌}
 
+pub none_below : none ≡ below 0
+none_below = fun_ext (λ j. grind (arith, nat_tests))
+
+pub one_more_below : (i : ℕ) → below i ∪ only i ≡ below (i + 1)
+one_more_below i = fun_ext (λ j. grind (arith, nat_tests))
+
 pub below_none : (s : Set) → s ∩ below 0 ≡ none
 below_none s = fun_ext (λ j. grind (arith, nat_tests))
 

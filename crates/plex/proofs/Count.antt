@@ -3,7 +3,7 @@ use Rattle.std.proofs.lemmas.Bool.Decides.{nat_tests}
 use Rattle.std.proofs.lemmas.Bool.{cases_lt, cases_Bool}
 use Rattle.plex.specs.Sets.{Set, Agreement, one_if, card, ◌∩◌, ◌∪◌, ◌∖◌, only, ◌⊆◌, Kplex}
 
-bit_le : (a : Bool) → one_if a ≤ 1
+pub bit_le : (a : Bool) → one_if a ≤ 1
 bit_le a = grind arith
 
 bit_mono : (a b : Bool) → (a ≡ true → b ≡ true) → one_if a ≤ one_if b

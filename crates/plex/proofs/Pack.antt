@@ -1,11 +1,9 @@
-use Rattle.std.proofs.Common.{◌≡◌, ℕ, zero, suc, ◌+◌, ◌-◌, ◌*◌, ◌/◌, ◌%◌, ◌^◌, ◌<◌, ◌≤◌, Bool, true, false, eqb, List, [], ◌∷◌, length, sym, refl, ap, ◌∙◌, ap₂, inl, inr, pow-suc, div-one, arith}
+use Rattle.std.proofs.Common.{◌≡◌, ℕ, zero, suc, ◌+◌, ◌-◌, ◌*◌, ◌/◌, ◌%◌, ◌^◌, ◌<◌, Bool, true, false, eqb, List, [], ◌∷◌, length, sym, refl, ap, ◌∙◌, ap₂, inl, inr, pow-suc, div-one, arith}
 use Rattle.std.proofs.lemmas.Bool.{cases_lt}
 use Rattle.plex.specs.Sets.{Set, one_if}
 use Rattle.plex.specs.Words.{bits_of, holds, word_of, words_of, Words}
+use Rattle.plex.proofs.Count.{bit_le}
 use Rattle.plex.proofs.Words.{bits_of_zero, bits_of_suc, holds_low, holds_high}
-
-bit_le : (b : Bool) → one_if b ≤ 1
-bit_le b = grind arith
 
 bit_only : (b : Bool) → eqb (one_if b) 1 ≡ b
 bit_only true = refl

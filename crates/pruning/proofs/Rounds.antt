@@ -111,7 +111,7 @@ module _ (n x y : ℕ) where
   pub prune_is : (m : ℕ) (g : Agreement) → Among n g → TwoWay g → agreements_at_ends n g ≤ m → Largest n x y g (rounds m n x y g)
   prune_is m g w s l = record { good = prune_good m g w s l; part = prune_part m g w; most = λ h p u. prune_most m g h w p u }
 
-sum_le : (n m : ℕ) (f : ℕ → ℕ) → ((i : ℕ) → f i ≤ m) → sum_to n f ≤ n * m
+pub sum_le : (n m : ℕ) (f : ℕ → ℕ) → ((i : ℕ) → f i ≤ m) → sum_to n f ≤ n * m
 unfolding sum_to
 sum_le zero m f h = zero-le
 sum_le (suc n) m f h = omega (arith, sum_le n m f h, h n)

@@ -12,7 +12,8 @@ use Rattle.searching.specs.States.{State, held_size, ceiling, steps_for, steps_l
 use Rattle.searching.specs.Calls.{Call, Step, Run, Offer, Answer, run_limit, Does}
 use Rattle.searching.specs.Computed.{peel, trim, next, run, make, answer, leaves}
 use Rattle.searching.specs.Examples.{pentagon, eight, eight_sparse, Ends, three_apart, no_marks, both_rules, Looks, Gets, Leaves, PentagonTwo, PentagonOne, WorkedExamples}
-use Rattle.searching.proofs.Making.{meaning_two_way, meaning_among, made_sound}
+use Rattle.searching.proofs.Making.{made_sound}
+use Rattle.plex.proofs.Within.{two_way, among}
 use Rattle.searching.proofs.Exactness.{computed_only}
 use Rattle.searching.proofs.Made.{make_is, make_only}
 
@@ -175,7 +176,7 @@ sparse_ends a t d =
 leaves_by : (k f x : ℕ) → agreements 5 (rounds 25 5 (ends_needed k f) (shared_needed k f) pentagon.agrees) ≡ x → Leaves k f x
 leaves_by k f x e g l =
     ap (agreements 5) (co_pruning.unique 5 (ends_needed k f) (shared_needed k f) pentagon.agrees g _ l
-    (co_pruning.by_rounds 5 (ends_needed k f) (shared_needed k f) pentagon.agrees (meaning_among pentagon) (meaning_two_way pentagon))) ∙ e
+    (co_pruning.by_rounds 5 (ends_needed k f) (shared_needed k f) pentagon.agrees (among pentagon) (two_way pentagon))) ∙ e
 
 left_three : agreements 5 (rounds 25 5 (ends_needed 2 3) (shared_needed 2 3) pentagon.agrees) ≡ 5
 unfolding card rounds sum_to

@@ -14,9 +14,10 @@ use Rattle.searching.specs.Exactness.{MakingIsExact}
 use Rattle.searching.specs.Computed.{Found, peel, pruned_at, table_at, branches_at, make}
 use Rattle.searching.proofs.First.{peel_is, peels_unique}
 use Rattle.searching.proofs.States.{state_same}
-use Rattle.searching.proofs.Making.{meaning_two_way, meaning_among, made_sound}
+use Rattle.searching.proofs.Making.{made_sound}
+use Rattle.plex.proofs.Within.{two_way, among}
 
-module _ (n k : ℕ) (a : Agreement) (rule : Number) (among : Among n a) (two : TwoWay a) where
+module _ (n k : ℕ) (a : Agreement) (rule : Number) (inside : Among n a) (two : TwoWay a) where
   abbrev found : Found
   found = peel n n k a (below n)
 
@@ -27,7 +28,7 @@ module _ (n k : ℕ) (a : Agreement) (rule : Number) (among : Among n a) (two : 
   found_is = peel_is n n k a (below n) (λ i t. ltb-true i n t) (card_le n (below n))
 
   pruned_is : Largest n (ends_needed k h) (shared_needed k h) a (pruned_at n k a h)
-  pruned_is = co_pruning.by_rounds n (ends_needed k h) (shared_needed k h) a among two
+  pruned_is = co_pruning.by_rounds n (ends_needed k h) (shared_needed k h) a inside two
 
   -- a search with these marks, this k, sheet and rule, this first group and top, and the table and branches that go with them
   pub unmade : (s : State) → s.marks ≡ n → s.k ≡ k → s.sheet ≡ a → s.rule ≡ rule →
@@ -84,16 +85,16 @@ make_is m k rule = record {
   k_is = refl;
   sheet = refl;
   rule_is = refl;
-  first = found_is m.marks k m.agrees rule (meaning_among m) (meaning_two_way m);
-  opens = make_opens m.marks k m.agrees rule (meaning_among m) (meaning_two_way m);
-  done = make_done m.marks k m.agrees rule (meaning_among m) (meaning_two_way m);
+  first = found_is m.marks k m.agrees rule (among m) (two_way m);
+  opens = make_opens m.marks k m.agrees rule (among m) (two_way m);
+  done = make_done m.marks k m.agrees rule (among m) (two_way m);
   taken = refl;
 }
 
 -- and making leaves nothing else
 pub make_only : (m : Meaning) (k : ℕ) (rule : Number) (s : State) → Made m k rule s → s ≡ make m.marks k m.agrees rule
 make_only m k rule s w =
-    unmade m.marks k m.agrees rule (meaning_among m) (meaning_two_way m) s
+    unmade m.marks k m.agrees rule (among m) (two_way m) s
     w.marks w.k_is w.sheet w.rule_is w.first w.opens w.done w.taken
 
 pub making_is_exact_lem : MakingIsExact

@@ -1,9 +1,10 @@
 -- What making leaves is sound.
-use Rattle.std.proofs.Common.{◌≡◌, ℕ, ◌+◌, ◌-◌, ◌^◌, ◌<◌, ◌≤◌, true, ltb, sym, refl, ap, ◌∙◌, subst, inl, inr, arith}
+use Rattle.std.proofs.Common.{ℕ, ◌+◌, ◌-◌, ◌^◌, ◌≤◌, ltb, sym, refl, ap, ◌∙◌, subst, inl, inr, arith}
 use Rattle.std.proofs.lemmas.Bool.{cases_lt, cases_Bool, ltb-true, lt-ltb, and_parts, true≢false, false≢true}
-use Rattle.plex.specs.Sets.{Set, Agreement, TwoWay, NoSelf, Among, ◌⊑◌, card, below, Kplex}
+use Rattle.plex.specs.Sets.{Set, Agreement, TwoWay, NoSelf, ◌⊑◌, card, below, Kplex}
 use Rattle.plex.specs.Meaning.{Meaning}
 use Rattle.plex.proofs.Count.{card_le}
+use Rattle.plex.proofs.Within.{two_way}
 use Rattle.pruning.specs.Pruned.{ends_needed, left_marks}
 use Rattle.pruning.proofs.Striking.{plex_stays}
 use Rattle.ceiling.specs.Rules.{Number}
@@ -13,15 +14,6 @@ use Rattle.searching.specs.Sound.{InSome, SoundBranches, Stacked, Sound}
 use Rattle.searching.specs.Making.{Opens, Done, Made}
 use Rattle.searching.proofs.First.{Stands, peels_stands}
 use Rattle.searching.proofs.Branches.{steps_for_is, steps_for_mono}
-
-pub meaning_two_way : (m : Meaning) → TwoWay m.agrees
-meaning_two_way m i j t = m.symmetric j i ∙ t
-
-pub meaning_among : (m : Meaning) → Among m.marks m.agrees
-meaning_among m i j t = (low i j t, low j i (meaning_two_way m i j t))
-  where
-    low : (i j : ℕ) → m.agrees i j ≡ true → i < m.marks
-    low i j e = elim (cases_lt i m.marks) [ inl l ↦ l | inr l ↦ absurd (true≢false (sym e ∙ m.inside i j l)) ]
 
 no_self_part : (g r : Agreement) → g ⊑ r → NoSelf r → NoSelf g
 no_self_part g r b h i = elim (cases_Bool (g i i)) [ inl t ↦ absurd (true≢false (sym (b i i t) ∙ h i)) | inr f ↦ f ]
@@ -89,8 +81,8 @@ module _ (m : Meaning) (k : ℕ) (rule : Number) (s : State) (w : Made m k rule 
   few_marks : s.marks ≤ 128
   few_marks = omega (arith, w.marks, m.few)
 
-  two_way : TwoWay s.sheet
-  two_way = subst TwoWay (sym w.sheet) (meaning_two_way m)
+  goes_back : TwoWay s.sheet
+  goes_back = subst TwoWay (sym w.sheet) (two_way m)
 
   not_self : NoSelf s.sheet
   not_self = subst NoSelf (sym w.sheet) m.irreflexive
@@ -98,13 +90,13 @@ module _ (m : Meaning) (k : ℕ) (rule : Number) (s : State) (w : Made m k rule 
   pub made_sound : Sound s
   made_sound =
       elim (cases_lt (held_size s) s.top) [
-        | inl l ↦ opens_sound s few_marks two_way not_self w.first (w.opens l)
-        | inr l ↦ done_sound s few_marks two_way not_self w.first l (w.done l)
+        | inl l ↦ opens_sound s few_marks goes_back not_self w.first (w.opens l)
+        | inr l ↦ done_sound s few_marks goes_back not_self w.first l (w.done l)
       ]
 
   pub made_left : steps_left s ≤ 2 ^ (s.marks + 1) - 1
   made_left =
       elim (cases_lt (held_size s) s.top) [
-        | inl l ↦ opens_left s few_marks two_way not_self w.first (w.opens l)
-        | inr l ↦ done_left s few_marks two_way not_self w.first (w.done l)
+        | inl l ↦ opens_left s few_marks goes_back not_self w.first (w.opens l)
+        | inr l ↦ done_left s few_marks goes_back not_self w.first (w.done l)
       ]

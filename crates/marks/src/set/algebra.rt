@@ -1,19 +1,12 @@
 // Making, asking and combining sets.
-ghost use Rattle.std.specs.Prelude.{◌≡◌, ℕ, ◌<◌, ◌≤◌, false, not, ◌&&◌, ◌==◌};
-ghost use Rattle.plex.specs.Sets.{card, none, only, ◌∩◌, ◌∪◌, ◌∖◌};
-ghost use Rattle.plex.specs.Words.{bits_of};
+ghost use Rattle.std.specs.Prelude.{◌≡◌, ℕ, ◌<◌, ◌≤◌, false, ◌==◌, min, slice_index};
+ghost use Rattle.plex.specs.Sets.{below, card, none, only, ◌∩◌, ◌∪◌, ◌∖◌};
 ghost use Rattle.marks.specs.Members.{members, Lowest};
 
 use super::MarkSet;
 
-// The bits of a that are not in b.
-fn and_not(a: u32, b: u32) -> u32
-    ensures { (i : ℕ) → i < 32 → bits_of result i ≡ (bits_of a i && not (bits_of b i)) }
-{
-    a & !b
-}
-
 impl MarkSet {
+    // By a name and not by `From`, which would not say what the array holds.
     pub fn from_words(words: [u32; 4]) -> MarkSet
         ensures { result.words ≡ words }
     {
@@ -31,6 +24,17 @@ impl MarkSet {
             words: [0; 4],
             count: 0,
         }
+    }
+
+    // The marks below a number; all of them from 128 on.
+    pub fn below(limit: u32) -> MarkSet
+        ensures { members result ≡ below (min limit 128) }
+    {
+        let mut set = MarkSet::empty();
+        for mark in 0..limit.min(128) {
+            set = set.with(mark);
+        }
+        set
     }
 
     // The mark alone; nothing where the number is 128 or more.
@@ -85,48 +89,45 @@ impl MarkSet {
         }
     }
 
+    // The set of four words, each made of the words of both sets that stand where it stands.
+    fn word_by_word<F: Fn(u32, u32) -> u32>(self, other: MarkSet, make: F) -> MarkSet
+        requires { F.IsAlwaysCallable make }
+        ensures { (w : ℕ) → w < 4 → F.post make (slice_index self.words w) (slice_index other.words w) (slice_index result.words w) }
+    {
+        let [a0, a1, a2, a3] = self.words;
+        let [b0, b1, b2, b3] = other.words;
+        MarkSet::from_words([make(a0, b0), make(a1, b1), make(a2, b2), make(a3, b3)])
+    }
+
     // The marks of both sets.
     pub fn and(self, other: MarkSet) -> MarkSet
         ensures { members result ≡ members self ∩ members other }
     {
-        let a = self.words;
-        let b = other.words;
-        MarkSet::from_words([a[0] & b[0], a[1] & b[1], a[2] & b[2], a[3] & b[3]])
+        self.word_by_word(other, |a, b| a & b)
     }
 
     // The marks of either set.
     pub fn or(self, other: MarkSet) -> MarkSet
         ensures { members result ≡ members self ∪ members other }
     {
-        let a = self.words;
-        let b = other.words;
-        MarkSet::from_words([a[0] | b[0], a[1] | b[1], a[2] | b[2], a[3] | b[3]])
+        self.word_by_word(other, |a, b| a | b)
     }
 
     // The marks of this set that are not in the other.
     pub fn minus(self, other: MarkSet) -> MarkSet
         ensures { members result ≡ members self ∖ members other }
     {
-        let a = self.words;
-        let b = other.words;
-        MarkSet::from_words([
-            and_not(a[0], b[0]),
-            and_not(a[1], b[1]),
-            and_not(a[2], b[2]),
-            and_not(a[3], b[3]),
-        ])
+        self.word_by_word(other, |a, b| a & !b)
     }
 
     // The mark with the lowest number.
     pub fn lowest(self) -> Option<u32>
         ensures { Lowest (members self) result }
     {
-        let mut first = 0;
-        for word in self.words {
-            if word != 0 {
-                return Some(first + word.trailing_zeros());
+        for (at, word) in self.words.iter().enumerate() {
+            if *word != 0 {
+                return Some(32 * at as u32 + word.trailing_zeros());
             }
-            first += 32;
         }
         None
     }

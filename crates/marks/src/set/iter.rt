@@ -1,5 +1,6 @@
 // The marks of a set, one by one, rising.
 ghost use Rattle.std.specs.Prelude.{◌≡◌};
+ghost use Rattle.marks.specs.Members.{members, Filtered};
 ghost use Rattle.marks.specs.Rising.{Gives};
 ghost use Rattle.std.specs.Iterator.{at_most};
 
@@ -17,6 +18,20 @@ impl MarkSet {
     {
         Rising { rest: self }
     }
+
+    // The marks of the set that a test keeps.
+    pub fn filter<F: Fn(u32) -> bool>(self, keeps: F) -> MarkSet
+        requires { F.IsAlwaysCallable keeps }
+        ensures { Filtered (F.post keeps) (members self) (members result) }
+    {
+        let mut kept = self;
+        for mark in self.rising() {
+            if !keeps(mark) {
+                kept = kept.without(mark);
+            }
+        }
+        kept
+    }
 }
 
 // Each call gives the lowest mark that has not come yet.
@@ -30,12 +45,8 @@ impl Iterator for Rising {
     ghost remaining = { λ s. at_most s.rest.count };
 
     fn next(&mut self) -> Option<u32> {
-        match self.rest.lowest() {
-            None => None,
-            Some(mark) => {
-                self.rest = self.rest.without(mark);
-                Some(mark)
-            }
-        }
+        let mark = self.rest.lowest()?;
+        self.rest = self.rest.without(mark);
+        Some(mark)
     }
 }

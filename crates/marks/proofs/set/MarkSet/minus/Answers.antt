@@ -1,5 +1,7 @@
-use Rattle.std.proofs.Common.{◌≡◌, not, ◌&&◌, length, refl, ap, ◌∙◌, rules}
-use Rattle.plex.specs.Words.{holds}
+use Rattle.std.proofs.Common.{◌≡◌, ◌-◌, ◌<◌, ◌^◌, not, ◌&&◌, length, get_or, refl, ap, ◌∙◌, rules}
+use lib.Bits.{bit_and}
+use Rattle.plex.specs.Words.{bits_of}
+use Rattle.plex.proofs.Words.{bits_of_and, bits_of_not}
 use Rattle.marks.proofs.Four.{each_of_four}
 use Rattle.marks.proofs.set.MarkSet.minus.Goals as goal
 
@@ -7,8 +9,14 @@ pub returns : goal.returns
 returns c =
     let us = c.args.self.words in
     let vs = c.args.other.words in
+    let ws = c.word_by_word.result.words in
     let l : length us ≡ 4 = search rules in
     let m : length vs ≡ 4 = search rules in
-    ap holds c.from_words.ensures
-    ∙ each_of_four (λ a b. a && not b) us vs _ _ _ _ refl l m
-    c.and_not.ensures c.and_not-2.ensures c.and_not-3.ensures c.and_not-4.ensures
+    let n : length ws ≡ 4 = search rules in
+    each_of_four (λ a b. a && not b) us vs ws refl l m n (λ w h i k.
+    (let made = c.word_by_word.ensures w h in
+    let fits : get_or vs w 0 < 2 ^ 32 = search rules in
+    let e : get_or ws w 0 ≡ bit_and (get_or us w 0) (4294967295 - get_or vs w 0) = search rules in
+    ap (λ x. bits_of x i) e
+    ∙ bits_of_and (get_or us w 0) (4294967295 - get_or vs w 0) i
+    ∙ ap (λ x. bits_of (get_or us w 0) i && x) (bits_of_not 32 (get_or vs w 0) i fits k)))

@@ -1,5 +1,6 @@
 use Rattle.std.proofs.Common.{◌≡◌, ◌||◌, length, get_or, refl, ap, ◌∙◌, rules}
-use Rattle.plex.specs.Words.{holds}
+use lib.Bits.{bit_or}
+use Rattle.plex.specs.Words.{bits_of}
 use Rattle.plex.proofs.Words.{bits_of_or}
 use Rattle.marks.proofs.Four.{each_of_four}
 use Rattle.marks.proofs.set.MarkSet.or.Goals as goal
@@ -8,11 +9,11 @@ pub returns : goal.returns
 returns c =
     let us = c.args.self.words in
     let vs = c.args.other.words in
+    let ws = c.word_by_word.result.words in
     let l : length us ≡ 4 = search rules in
     let m : length vs ≡ 4 = search rules in
-    ap holds c.from_words.ensures
-    ∙ each_of_four ◌||◌ us vs _ _ _ _ refl l m
-    (λ i _. bits_of_or (get_or us 0 0) (get_or vs 0 0) i)
-    (λ i _. bits_of_or (get_or us 1 0) (get_or vs 1 0) i)
-    (λ i _. bits_of_or (get_or us 2 0) (get_or vs 2 0) i)
-    (λ i _. bits_of_or (get_or us 3 0) (get_or vs 3 0) i)
+    let n : length ws ≡ 4 = search rules in
+    each_of_four ◌||◌ us vs ws refl l m n (λ w h i _.
+    (let made = c.word_by_word.ensures w h in
+    let e : get_or ws w 0 ≡ bit_or (get_or us w 0) (get_or vs w 0) = search rules in
+    ap (λ x. bits_of x i) e ∙ bits_of_or (get_or us w 0) (get_or vs w 0) i))
