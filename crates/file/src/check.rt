@@ -5,9 +5,10 @@ ghost use Rattle.fileword.specs.Files.{Good};
 ghost use Rattle.fileword.specs.declared.files.Wanted.TheVariants.{Either};
 ghost use Rattle.fileword.specs.Laws.{said};
 
-use crate::faults::{fault_at, is_measured, lacks_end, word_at};
-use fileword::files::{Fault, FileRefusal, Form, Summary, Wanted};
-use fileword::layout::{k_of, marks_of};
+use crate::faults::{lacks_end, refusal_at};
+use crate::words::{form_said, marks_said, word_at};
+use fileword::files::{Fault, FileRefusal, Summary, Wanted};
+use fileword::layout::k_of;
 
 // Whether words are a good file, of which form, with how many marks and for which k.
 pub fn check(words: &[u32]) -> Result<Summary, FileRefusal>
@@ -21,33 +22,23 @@ pub fn check(words: &[u32]) -> Result<Summary, FileRefusal>
 pub(crate) fn judge(words: &[u32], wanted: Wanted) -> Result<Summary, FileRefusal>
     ensures { Judged wanted words.now result }
 {
-    for place in 0..words.len() {
-        if let Some(fault) = fault_at(words, wanted, place) {
-            return Err(FileRefusal { fault, place });
-        }
-    }
-    if lacks_end(words) {
-        return Err(FileRefusal {
+    match (0..words.len()).find_map(|place| refusal_at(words, wanted, place)) {
+        Some(refusal) => Err(refusal),
+        None if lacks_end(words) => Err(FileRefusal {
             fault: Fault::NoEnd,
             place: words.len(),
-        });
+        }),
+        None => Ok(summary(words)),
     }
-    Ok(summary(words))
 }
 
 // What the head and the word after it say.
 fn summary(words: &[u32]) -> Summary
     ensures { result ≡ said words.now }
 {
-    let form = if is_measured(words) {
-        Form::Measured
-    } else {
-        Form::Pairs
-    };
-    let head = word_at(words, 0);
     Summary {
-        form,
-        marks: marks_of(head),
-        k: k_of(head),
+        form: form_said(words),
+        marks: marks_said(words),
+        k: k_of(word_at(words, 0)),
     }
 }

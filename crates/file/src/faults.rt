@@ -1,95 +1,87 @@
 // What may be wrong with one word of a file.
-ghost use Rattle.std.specs.Prelude.{◌≡◌, ◌<◌, length};
-ghost use Rattle.fileword.specs.Faults.{at, measured, may_begin, in_measured, in_pairs, may_stand, spare_set, in_range, comes_after, pair_fits, end_load, lacks_end};
-ghost use Rattle.file.specs.Finding.{Finds};
+ghost use Rattle.std.specs.Prelude.{◌≡◌, ◌<◌, length, nat_eq};
+ghost use Rattle.fileword.specs.Faults.{may_begin, in_measured, in_pairs, may_stand, spare_set, in_range, comes_after, pair_fits, end_load, lacks_end};
+ghost use Rattle.fileword.specs.Layout.{kind};
+ghost use Rattle.file.specs.Finding.{Finds, FindsAt};
 
-use fileword::files::{Fault, Wanted};
-use fileword::layout::{k_of, kind_of, load_of, lower_of, marks_of, upper_of};
+use crate::words::{form_said, marks_said, word_at};
+use fileword::files::{Fault, FileRefusal, Form, Wanted};
+use fileword::layout::{Kind, k_of, load_of, lower_of, marks_of, upper_of};
 
-// The word at a place; past the end it is 0, which is of no kind.
-pub(crate) fn word_at(words: &[u32], place: usize) -> u32
-    ensures { result ≡ at words.now place }
+fn is_end(word: u32) -> bool
+    ensures { result ≡ nat_eq (kind word) 15 }
 {
-    if place < words.len() { words[place] } else { 0 }
+    Kind::of(word) == Some(Kind::End)
 }
 
-// Whether the word after the head begins a measured file.
-pub(crate) fn is_measured(words: &[u32]) -> bool
-    ensures { result ≡ measured words.now }
+// Whether a word of this kind may stand after the head, for a reader who wants this form.
+fn may_begin(wanted: Wanted, word: u32) -> bool
+    ensures { result ≡ may_begin wanted (kind word) }
 {
-    kind_of(word_at(words, 1)) == 7
-}
-
-fn may_begin(wanted: Wanted, kind: u32) -> bool
-    ensures { result ≡ may_begin wanted kind }
-{
-    match wanted {
-        Wanted::Either => kind == 2 || kind == 15 || kind == 7,
-        Wanted::OnlyPairs => kind == 2 || kind == 15,
-        Wanted::OnlyMeasured => kind == 7,
+    match Kind::of(word) {
+        Some(Kind::Pair | Kind::End) => wanted != Wanted::OnlyMeasured,
+        Some(Kind::Tolerance) => wanted != Wanted::OnlyPairs,
+        _ => false,
     }
 }
 
+// The kinds of a mark's four words, in turn.
+const KINDS_OF_A_MARK: [Kind; 4] = [Kind::PlannedXy, Kind::PlannedZ, Kind::SeenXy, Kind::SeenZ];
+
 // Whether a word of this kind may stand at a place of a measured file, from place 2 on.
-fn stands_in_measured(marks: u32, place: usize, kind: u32) -> bool
-    requires { (marks < 256) × (1 < place) }
-    ensures { result ≡ in_measured marks place kind }
+fn stands_in_measured(marks: u32, place: usize, word: u32) -> bool
+    requires { 1 < place }
+    ensures { result ≡ in_measured marks place (kind word) }
 {
     let end = 2 + 4 * marks as usize;
     if place < end {
-        kind as usize == 3 + (place - 2) % 4
+        Kind::of(word) == Some(KINDS_OF_A_MARK[(place - 2) % 4])
     } else {
-        place == end && kind == 15
+        place == end && is_end(word)
     }
 }
 
 // Whether a word of this kind may stand behind one of the kind before in a pair file.
-fn stands_in_pairs(before: u32, kind: u32) -> bool
-    ensures { result ≡ in_pairs before kind }
+fn stands_in_pairs(before: u32, word: u32) -> bool
+    ensures { result ≡ in_pairs (kind before) (kind word) }
 {
-    before != 15 && (kind == 2 || kind == 15)
+    !is_end(before) && matches!(Kind::of(word), Some(Kind::Pair | Kind::End))
 }
 
 // Whether the kind of the word at a place may stand there.
 fn may_stand(words: &[u32], wanted: Wanted, place: usize) -> bool
     ensures { result ≡ may_stand wanted words.now place }
 {
-    let kind = kind_of(word_at(words, place));
-    if place == 0 {
-        return kind == 1;
-    }
-    if place == 1 {
-        return may_begin(wanted, kind);
-    }
-    if is_measured(words) {
-        stands_in_measured(marks_of(word_at(words, 0)), place, kind)
-    } else {
-        stands_in_pairs(kind_of(word_at(words, place - 1)), kind)
+    let word = word_at(words, place);
+    match (place, form_said(words)) {
+        (0, _) => Kind::of(word) == Some(Kind::Head),
+        (1, _) => may_begin(wanted, word),
+        (_, Form::Measured) => stands_in_measured(marks_said(words), place, word),
+        (_, Form::Pairs) => stands_in_pairs(word_at(words, place - 1), word),
     }
 }
 
 fn spare_set(word: u32) -> bool
     ensures { result ≡ spare_set word }
 {
-    let kind = kind_of(word);
-    (kind == 1 && load_of(word) / 0x1_0000 != 0)
-        || ((kind == 4 || kind == 6) && upper_of(word) != 0)
+    match Kind::of(word) {
+        Some(Kind::Head) => load_of(word) / 0x1_0000 != 0,
+        Some(Kind::PlannedZ | Kind::SeenZ) => upper_of(word) != 0,
+        _ => false,
+    }
 }
 
 fn in_range(head: u32) -> bool
     ensures { result ≡ in_range head }
 {
-    let k = k_of(head);
-    marks_of(head) <= 128 && 1 <= k && k <= 16
+    marks_of(head) <= 128 && (1..=16).contains(&k_of(head))
 }
 
 // Whether a word's pair comes after that of the word before it.
 fn comes_after(before: u32, word: u32) -> bool
     ensures { result ≡ comes_after before word }
 {
-    let a = upper_of(before);
-    let b = upper_of(word);
-    a < b || (a == b && lower_of(before) < lower_of(word))
+    (upper_of(before), lower_of(before)) < (upper_of(word), lower_of(word))
 }
 
 // Whether a pair names two marks, the lower first, and comes after the one before it.
@@ -105,15 +97,14 @@ fn pair_fits(marks: u32, place: usize, before: u32, word: u32) -> bool
 fn end_load(words: &[u32], place: usize) -> usize
     ensures { result ≡ end_load words.now place }
 {
-    if is_measured(words) {
-        marks_of(word_at(words, 0)) as usize
-    } else {
-        place.saturating_sub(1)
+    match form_said(words) {
+        Form::Measured => marks_said(words) as usize,
+        Form::Pairs => place.saturating_sub(1),
     }
 }
 
 // The first fault of the word at a place, if it has any.
-pub(crate) fn fault_at(words: &[u32], wanted: Wanted, place: usize) -> Option<Fault>
+fn fault_at(words: &[u32], wanted: Wanted, place: usize) -> Option<Fault>
     requires { place < length words.now }
     ensures { Finds wanted words.now place result }
 {
@@ -124,27 +115,32 @@ pub(crate) fn fault_at(words: &[u32], wanted: Wanted, place: usize) -> Option<Fa
     if spare_set(word) {
         return Some(Fault::SpareBit);
     }
-    if place == 0 && !in_range(word_at(words, 0)) {
+    if place == 0 && !in_range(word) {
         return Some(Fault::OutOfRange);
     }
     let before = word_at(words, place.saturating_sub(1));
-    if kind_of(word) == 2 && !pair_fits(marks_of(word_at(words, 0)), place, before, word) {
-        return Some(Fault::WrongPair);
+    match Kind::of(word) {
+        Some(Kind::Pair) if !pair_fits(marks_said(words), place, before, word) => {
+            Some(Fault::WrongPair)
+        }
+        Some(Kind::End) if load_of(word) as usize != end_load(words, place) => {
+            Some(Fault::WrongEnd)
+        }
+        _ => None,
     }
-    if kind_of(word) == 15 && load_of(word) as usize != end_load(words, place) {
-        return Some(Fault::WrongEnd);
-    }
-    None
+}
+
+// The refusal for the word at a place, if it has a fault.
+pub(crate) fn refusal_at(words: &[u32], wanted: Wanted, place: usize) -> Option<FileRefusal>
+    requires { place < length words.now }
+    ensures { FindsAt wanted words.now place result }
+{
+    fault_at(words, wanted, place).map(|fault| FileRefusal { fault, place })
 }
 
 // Whether no word is an end.
 pub(crate) fn lacks_end(words: &[u32]) -> bool
     ensures { result ≡ lacks_end words.now }
 {
-    for word in words {
-        if kind_of(*word) == 15 {
-            return false;
-        }
-    }
-    true
+    !words.iter().copied().any(is_end)
 }

@@ -7,3 +7,4 @@ mod faults;
 pub mod laws;
 pub mod measured;
 pub mod pairs;
+mod words;

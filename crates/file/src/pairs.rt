@@ -4,11 +4,12 @@ ghost use Rattle.pairing.specs.Naming.{names};
 ghost use Rattle.file.specs.Sheets.{pair_meaning, PairsRead, PairsAccepted};
 
 use crate::check::judge;
-use crate::faults::word_at;
+use crate::words::sheet_marks;
 use fileword::files::{FileRefusal, Wanted};
-use fileword::layout::{marks_of, word_of_pair};
+use fileword::layout::word_of_pair;
 use pairing::row_among;
 use sheet::kinds::Sheet;
+use sheet::two::two_marks;
 
 #[derive(Clone, Copy)]
 pub struct PairSheet<'a> {
@@ -21,10 +22,9 @@ impl<'a> PairSheet<'a> {
         ensures reads { PairsRead words.now result }
         ensures accepts { PairsAccepted words.now result }
     {
-        match judge(words, Wanted::OnlyPairs) {
-            Ok(_) => Ok(PairSheet { words }),
-            Err(refusal) => Err(refusal),
-        }
+        // one sheet for both forms would share no more than this line
+        judge(words, Wanted::OnlyPairs)?;
+        Ok(PairSheet { words })
     }
 
     // Whether the file names the pair of marks.
@@ -40,12 +40,15 @@ impl<'a> Sheet for PairSheet<'a> {
     ghost meaning = { λ s. pair_meaning s.words.now };
 
     fn marks(&self) -> u32 {
-        marks_of(word_at(self.words, 0)).min(128)
+        sheet_marks(self.words)
     }
 
     fn agree(&self, i: u32, j: u32) -> bool {
-        let marks = self.marks();
-        i < marks && j < marks && i != j && self.names(i.min(j), i.max(j))
+        // not by `is_some_and`: nothing would be known of what its closure answers, since the sheet borrows
+        match two_marks(self.marks(), i, j) {
+            Some((a, b)) => self.names(a, b),
+            None => false,
+        }
     }
 
     // In one pass over the words.

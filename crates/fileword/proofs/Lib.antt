@@ -1,4 +1,5 @@
 pub mod Words
+pub mod WordKinds
 pub mod WordTests
 pub mod Coordinates
 pub mod Points

@@ -1,9 +1,28 @@
 -- The layout of a file's words. The top four bits of a word are its kind, the other 28 its load. Assumes nothing.
-use Rattle.std.specs.Prelude.{ℕ, ◌+◌, ◌-◌, ◌*◌, ◌/◌, ◌%◌, ◌^◌, cond, List, [], ◌∷◌, ℤ, pos, negsuc, nat_lt}
+use Rattle.std.specs.Prelude.{◌≡◌, ℕ, ◌+◌, ◌-◌, ◌*◌, ◌/◌, ◌%◌, ◌^◌, cond, List, [], ◌∷◌, ℤ, pos, negsuc, nat_lt, Some, None, Option}
 use Rattle.plex.specs.Distance.{Point}
+use Rattle.fileword.specs.declared.layout.Kind.{Kind}
+use Rattle.fileword.specs.declared.layout.Kind.TheVariants.{Head, Pair, PlannedXy, PlannedZ, SeenXy, SeenZ, Tolerance, StruckPair, End}
 
 abbrev pub kind : ℕ → ℕ
 kind w = w / 2 ^ 28
+
+-- the number of each kind
+abbrev pub kind_number : Kind → ℕ
+kind_number Head = 1
+kind_number Pair = 2
+kind_number PlannedXy = 3
+kind_number PlannedZ = 4
+kind_number SeenXy = 5
+kind_number SeenZ = 6
+kind_number Tolerance = 7
+kind_number StruckPair = 14
+kind_number End = 15
+
+-- a number is that of a kind, or of no kind at all
+abbrev pub KindIs : ℕ → Option Kind → Type 0
+KindIs m (Some k) = m ≡ kind_number k
+KindIs m None = (k : Kind) → m ≡ kind_number k → ⊥
 
 abbrev pub load : ℕ → ℕ
 load w = w % 2 ^ 28

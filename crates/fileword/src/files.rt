@@ -28,17 +28,17 @@ pub struct Summary {
 #[derive(Clone, Copy, PartialEq, Eq, Debug)]
 pub enum Fault {
     // the word's kind may not stand there, or it stands after the end
-    WrongKind,
+    WrongKind = 11,
     // a spare bit is set
-    SpareBit,
+    SpareBit = 12,
     // more than 128 marks, or k not 1 to 16
-    OutOfRange,
+    OutOfRange = 13,
     // a pair names a mark that the sheet lacks, or its marks do not rise, or it is not after the pair before it
-    WrongPair,
+    WrongPair = 14,
     // the end's load is wrong
-    WrongEnd,
+    WrongEnd = 15,
     // there is no end; the place is the number of words
-    NoEnd,
+    NoEnd = 16,
 }
 
 impl Fault {
@@ -46,14 +46,7 @@ impl Fault {
     pub fn number(self) -> u32
         ensures { result ≡ number self }
     {
-        match self {
-            Fault::WrongKind => 11,
-            Fault::SpareBit => 12,
-            Fault::OutOfRange => 13,
-            Fault::WrongPair => 14,
-            Fault::WrongEnd => 15,
-            Fault::NoEnd => 16,
-        }
+        self as u32
     }
 }
 

@@ -1,12 +1,49 @@
 // Taking a file word apart, and putting one together.
 ghost use Rattle.std.specs.Prelude.{◌≡◌, ◌%◌, ◌^◌};
-ghost use Rattle.fileword.specs.Layout.{kind, load, upper, lower, head_marks, head_k, pair_word};
+ghost use Rattle.fileword.specs.Layout.{kind, KindIs, load, upper, lower, head_marks, head_k, pair_word};
 
-// The top four bits.
+// The top four bits, also where they are the number of no kind.
 pub fn kind_of(word: u32) -> u32
     ensures { result ≡ kind word }
 {
     word / 0x1000_0000
+}
+
+// What a word holds.
+#[derive(Clone, Copy, PartialEq, Eq, Debug)]
+pub enum Kind {
+    Head = 1,
+    Pair = 2,
+    // x and y of a planned point, and its z
+    PlannedXy = 3,
+    PlannedZ = 4,
+    // x and y of a seen point, and its z
+    SeenXy = 5,
+    SeenZ = 6,
+    Tolerance = 7,
+    // a pair that was struck out of a table
+    StruckPair = 14,
+    End = 15,
+}
+
+impl Kind {
+    // The kind of a word, if its top four bits are the number of one.
+    pub fn of(word: u32) -> Option<Kind>
+        ensures { KindIs (kind word) result }
+    {
+        match kind_of(word) {
+            1 => Some(Kind::Head),
+            2 => Some(Kind::Pair),
+            3 => Some(Kind::PlannedXy),
+            4 => Some(Kind::PlannedZ),
+            5 => Some(Kind::SeenXy),
+            6 => Some(Kind::SeenZ),
+            7 => Some(Kind::Tolerance),
+            14 => Some(Kind::StruckPair),
+            15 => Some(Kind::End),
+            _ => None,
+        }
+    }
 }
 
 // The other 28 bits.
@@ -48,5 +85,5 @@ pub fn k_of(head: u32) -> u32
 pub fn word_of_pair(a: u32, b: u32) -> u32
     ensures { result ≡ pair_word (a % 2 ^ 14) (b % 2 ^ 14) }
 {
-    0x2000_0000 + a % 0x4000 * 0x4000 + b % 0x4000
+    Kind::Pair as u32 * 0x1000_0000 + a % 0x4000 * 0x4000 + b % 0x4000
 }

@@ -6,7 +6,7 @@ ghost use Rattle.plex.specs.Meaning.{agree_by};
 ghost use Rattle.plex.specs.Words.{holds};
 ghost use Rattle.pairing.specs.Naming.{names, paired, IsJust};
 
-use fileword::layout::{kind_of, lower_of, upper_of};
+use fileword::layout::{Kind, lower_of, upper_of};
 use marks::set::MarkSet;
 
 // The mark that a word pairs with mark i, if it is the word of a pair of two marks.
@@ -16,13 +16,14 @@ fn partner(word: u32, marks: u32, i: u32) -> Option<u32>
 {
     let a = upper_of(word);
     let b = lower_of(word);
-    if kind_of(word) != 2 || a >= b || b >= marks {
+    if Kind::of(word) != Some(Kind::Pair) || a >= b || b >= marks {
         return None;
     }
     if a == i {
-        return Some(b);
+        Some(b)
+    } else {
+        (b == i).then_some(a)
     }
-    if b == i { Some(a) } else { None }
 }
 
 // The four words of the marks that a run of words pairs with mark i, in one pass over them. There are at most 128 marks.

@@ -31,7 +31,7 @@ fn square_of_gap(a: i32, b: i32) -> u32
 }
 
 impl Point {
-    // The point of two words: x and y, then z.
+    // The point of two words: x and y, then z. By a name and not by `From`, which would not say which word is which.
     pub(crate) fn from_words(xy: u32, z: u32) -> Point
         ensures { meant result ≡ point_of xy z }
     {

@@ -1,20 +1,14 @@
-use Rattle.std.proofs.Common.{◌≤◌, length, sym, refl, ◌∙◌, arith}
-use Rattle.file.proofs.Ends.{lacks_more, lacks_all, lacks_none}
+use Rattle.std.proofs.Common.{eqb, sym, ap, ◌∙◌, not, rules, tests}
+use Rattle.std.proofs.lemmas.Iterator.{YieldsList-from_slice}
+use Rattle.std.proofs.lemmas.Iterator.Consumers.{YieldsList-from_copied}
+use Rattle.std.proofs.lemmas.Iterator.Search.{any_from_yields_List}
+use Rattle.fileword.specs.Layout.{kind}
+use Rattle.file.proofs.Ends.{lacks_any}
 use Rattle.file.proofs.faults.lacks_end.Goals as goal
-
-pub loop-word-init : goal.loop-word-init
-loop-word-init c = refl
-
-pub returns-then-kind_of-eq15 : goal.returns-then-kind_of-eq15
-returns-then-kind_of-eq15 c =
-    lacks_none c.args.words.now c.loop-word.word-index c.loop-word-test.true (sym c.kind_of.ensures ∙ c.if-kind_of-eq15.true)
-
-pub loop-word-preserved : goal.loop-word-preserved
-loop-word-preserved c =
-    lacks_more c.args.words.now c.loop-word.word-index c.loop-word-test.true c.loop-word.invariant
-    (λ e. c.if-kind_of-eq15.false (c.kind_of.ensures ∙ e))
 
 pub returns : goal.returns
 returns c =
-    let h : length c.args.words.now ≤ c.loop-word.word-index = omega arith in
-    lacks_all c.args.words.now c.loop-word.word-index h c.loop-word.invariant
+    let ws = c.args.words.now in
+    let any = any_from_yields_List (λ w. eqb (kind w) 15) _ _ _ c.any.ensures.ran
+    (YieldsList-from_copied (YieldsList-from_slice ws cc)) (λ x b q k. search (rules, tests)) in
+    ap not any ∙ sym (lacks_any ws)

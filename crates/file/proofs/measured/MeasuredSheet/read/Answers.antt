@@ -4,18 +4,8 @@ use Rattle.fileword.proofs.Verdict.{good_or_refused}
 use Rattle.file.proofs.Reading.{measured_read}
 use Rattle.file.proofs.measured.MeasuredSheet.read.Goals as goal
 
-pub returns-in-Ok : goal.returns-in-Ok
-returns-in-Ok c =
-    let g = c.in-Ok.ensures in
-    record {
-      reads = measured_read c.args.words.now c.in-Ok.field-0 g.0 g.1 _ refl;
-      accepts = λ n k h. refl;
-    }
+pub returns-in_err-judge-clause-accepts : goal.returns-in_err-judge-clause-accepts
+returns-in_err-judge-clause-accepts c n k h = absurd (good_or_refused OnlyMeasured c.args.words.now _ _ (h, refl) c.in_err-judge.ensures)
 
-pub returns-in-Err : goal.returns-in-Err
-returns-in-Err c =
-    let r = c.in-Err.ensures in
-    record {
-      reads = r;
-      accepts = λ n k h. absurd (good_or_refused OnlyMeasured c.args.words.now _ c.in-Err.refusal (h, refl) r);
-    }
+pub returns-clause-reads : goal.returns-clause-reads
+returns-clause-reads c = let g = c.in_ok-judge.ensures in measured_read c.args.words.now c.in_ok-judge.field-0 g.0 g.1 _ refl
