@@ -1,7 +1,7 @@
 //! A queue around places that are lent, and its one refusal.
 ghost use Rattle.std.specs.Prelude.{◌≤◌, length};
 
-// Those that wait stand from `head` on, around the end of the places.
+// Those that wait stand from `head` on, around the end of the places. The places are the caller's, so no `VecDeque`.
 #[derive(Drop)]
 pub struct Queue<'a, T> {
     places: &'a mut [T],
@@ -15,7 +15,7 @@ pub struct Queue<'a, T> {
 #[derive(Clone, Copy)]
 pub enum QueueRefusal {
     // as many wait as there are places
-    Full,
+    Full = 45,
 }
 
 mod calls;

@@ -9,21 +9,8 @@ use Rattle.std.proofs.lemmas.Bool.Decides.{nat_tests}
 use Rattle.plex.specs.Sets.{one_if}
 use Rattle.plex.specs.Words.{bits_of}
 use Rattle.plex.proofs.Words.{bits_of_or, bits_of_pow, bits_of_none, bits_of_zero, bits_of_suc}
-use Rattle.sheet.specs.Rows.{row_words, bit_of, bit_entered, marks_held}
+use Rattle.sheet.specs.Rows.{row_words, bit_of, bit_entered}
 use Rattle.sheet.proofs.Parts.{part_at}
-
--- n marks have rows in so many words
-pub held_few : (room n i : ℕ) → i < marks_held room n → (i < n) × (n ≤ 128) × (n * row_words n ≤ room)
-held_few room n i h = grind (arith, nat_tests)
-
-pub held_all : (room n : ℕ) → n ≤ 128 → n * row_words n ≤ room → marks_held room n ≡ n
-held_all room n f h = grind (arith, nat_tests)
-
-pub held_under : (room n : ℕ) → marks_held room n ≤ 128
-held_under room n = grind (arith, nat_tests)
-
-pub held_fits : (room n : ℕ) → marks_held room n * row_words (marks_held room n) ≤ room
-held_fits room n = grind (arith, nat_tests)
 
 -- a bit's word
 pub bit_at : (ws : List ℕ) (r i j : ℕ) → j / 32 < r → bit_of ws r i j ≡ bits_of (get_or ws (i * r + j / 32) 0) (j % 32)

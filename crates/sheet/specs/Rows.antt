@@ -1,5 +1,5 @@
 -- Rows of bits in a caller's words. Assumes nothing.
-use Rattle.std.specs.Prelude.{ℕ, ◌+◌, ◌*◌, ◌/◌, ◌%◌, ◌^◌, ◌≤◌, cond, ◌&&◌, List, take, drop, bit_or, nat_le, slice_index, slice_set}
+use Rattle.std.specs.Prelude.{ℕ, ◌+◌, ◌*◌, ◌/◌, ◌%◌, ◌^◌, ◌≤◌, ◌&&◌, List, take, drop, bit_or, slice_index, slice_set}
 use Rattle.plex.specs.Sets.{Agreement}
 use Rattle.plex.specs.Words.{holds}
 
@@ -22,10 +22,6 @@ bit_entered ws r i j = slice_set ws (i * r + j / 32) (bit_or (slice_index ws (i 
 -- marks i and j agree if each has the other's bit in its row
 abbrev pub both_bits : List ℕ → ℕ → Agreement
 both_bits ws r i j = bit_of ws r i j && bit_of ws r j i
-
--- the marks of an entry for n marks in so many words: all n, if they are at most 128 and their rows fit, and otherwise none
-abbrev pub marks_held : ℕ → ℕ → ℕ
-marks_held room n = cond (nat_le n 128 && nat_le (n * row_words n) room) n 0
 
 -- a row has the least number of words whose bits are at least n
 abbrev pub LeastWords : Type 0

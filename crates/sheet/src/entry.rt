@@ -7,6 +7,8 @@ ghost use Rattle.sheet.specs.Rows.{row_words};
 pub struct Entry<'a> {
     words: &'a mut [u32],
     marks: u32,
+    ghost few: { marks ≤ 128 },
+    ghost fits: { marks * row_words marks ≤ length words.now },
 }
 
 // Can be searched and takes no more agreements.
@@ -22,13 +24,13 @@ pub struct Sealed<'a> {
 #[derive(Clone, Copy, PartialEq, Eq)]
 pub enum EntryRefusal {
     // more than 128 marks
-    TooManyMarks,
+    TooManyMarks = 21,
     // fewer words than the rows of the marks take
-    TooFewWords,
+    TooFewWords = 22,
     // a mark is not below the number of marks
-    NoSuchMark,
+    NoSuchMark = 23,
     // the same mark twice
-    SameMark,
+    SameMark = 24,
 }
 
 // An entry that was not begun: why, and the words as they were.

@@ -1,10 +1,8 @@
 -- What is among the words of a list, by places.
-use Rattle.std.proofs.Common.{◌≡◌, ℕ, zero, suc, ◌<◌, ◌≤◌, Bool, true, false, not, ◌&&◌, ◌||◌, eqb, ltb, List, [], ◌∷◌, length, get_or, take, set, sym, ap, ◌∙◌, ap₂, inl, inr, arith, length-set, length-take, get_or-take}
-use mathlib.Core.Path.{fun_ext}
+use Rattle.std.proofs.Common.{◌≡◌, ℕ, zero, suc, ◌<◌, ◌≤◌, Bool, true, false, not, ◌&&◌, eqb, List, [], ◌∷◌, length, get_or, take, set, sym, ap, ◌∙◌, inl, inr, arith, length-set, length-take, get_or-take}
 use Rattle.std.proofs.lemmas.List.{get_or-set_same, get_or-set_other}
 use Rattle.std.proofs.lemmas.Bool.{cases_eq, cases_lt, cases_Bool, or_left, or_right, or_cases, eq-eqb, ne_eqb, eqb-true, false≢true}
-use Rattle.plex.specs.Sets.{Agreement, among}
-use Rattle.plex.specs.Meaning.{agree_by}
+use Rattle.plex.specs.Sets.{among}
 
 pub among_at : (xs : List ℕ) (p x : ℕ) → p < length xs → get_or xs p 0 ≡ x → among xs x ≡ true
 among_at [] p x l e = absurd (omega arith)
@@ -77,7 +75,3 @@ among_changed ws p v x l d once =
           | inl f ↦ absurd (false≢true (sym b ∙ eq-eqb x (get_or ws p 0) (sym r.2 ∙ ap (λ s. get_or ws s 0) f)))
           | inr f ↦ among_at (set ws p v) q x (omega (arith, r.1, length-set ws p v)) (get_or-set_other ws p q v 0 f ∙ r.2)
         ]
-
--- two relations that are the same between marks give the same agreement
-pub agree_same : (n : ℕ) (r s : Agreement) → ((p q : ℕ) → r p q ≡ s p q) → (i : ℕ) → agree_by n r i ≡ agree_by n s i
-agree_same n r s h i = fun_ext (λ j. ap₂ (λ x y. (ltb i n && ltb j n) && ((ltb i j && x) || (ltb j i && y))) (h i j) (h j i))

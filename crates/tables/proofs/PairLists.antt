@@ -7,7 +7,6 @@ use Rattle.std.proofs.lemmas.List.{length-map, get_or-map, get_or_append_left, g
 use Rattle.std.proofs.lemmas.Bool.{cases_lt, or_left, or_right}
 use Rattle.std.proofs.lemmas.Bool.Decides.{nat_tests}
 use Rattle.plex.specs.Sets.{Set, Agreement, one_if, card, among, below, if_in, rising, ◌∖◌}
-use Rattle.plex.specs.Words.{holds}
 use Rattle.plex.specs.Meaning.{agree_by}
 use Rattle.plex.proofs.Rising.{length_rising, rising_within, rising_all, rising_rises, rising_none}
 use Rattle.pruning.specs.Pruned.{sum_to, agreements}
@@ -237,14 +236,11 @@ sum_part (suc n) i f l =
       | inr h ↦ (let e : i ≡ n = omega arith in omega (arith, ap f e, ap (λ k. sum_to k f) e))
     ]
 
--- one row more, by the words of a row that was read
-module _ (xs : List ℕ) (i n : ℕ) (r : Agreement) (us ws : List ℕ) (is : xs ≡ pairs_to i n r) (read : us ≡ ws) (row : holds ws ≡ r i) where
-  same : holds us ≡ r i
-  same = ap holds read ∙ row
+-- one row more, by the set of the marks of a row
+module _ (xs : List ℕ) (i n : ℕ) (r : Agreement) (s : Set) (is : xs ≡ pairs_to i n r) (row : s ≡ r i) where
+  pub pairs_step : (ys : List ℕ) → ys ≡ xs ++ row_pairs i n s → ys ≡ pairs_to (i + 1) n r
+  pairs_step ys e = e ∙ ap₂ (λ zs t. zs ++ row_pairs i n t) is row ∙ sym (pairs_more i n r)
 
-  pub pairs_step : (ys : List ℕ) → ys ≡ xs ++ row_pairs i n (holds us) → ys ≡ pairs_to (i + 1) n r
-  pairs_step ys e = e ∙ ap₂ (λ zs t. zs ++ row_pairs i n t) is same ∙ sym (pairs_more i n r)
-
-  pub pairs_too_long : (k : ℕ) → n ≡ k → i < n → 4096 < length xs + card n (holds us ∖ below (i + 1)) → 4096 < agreements k r
+  pub pairs_too_long : (k : ℕ) → n ≡ k → i < n → 4096 < length xs + card n (s ∖ below (i + 1)) → 4096 < agreements k r
   pairs_too_long k e l h =
-      rw (← e) (omega (arith, ap (λ t. card n (t ∖ below (i + 1))) same, ap length is, length_pairs i n r, sum_part n i (higher n r) l))
+      rw (← e) (omega (arith, ap (λ t. card n (t ∖ below (i + 1))) row, ap length is, length_pairs i n r, sum_part n i (higher n r) l))

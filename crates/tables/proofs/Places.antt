@@ -1,19 +1,26 @@
 -- The places of a table of pairs.
-use Rattle.std.proofs.Common.{◌≡◌, ℕ, ◌+◌, ◌<◌, ◌≤◌, Bool, true, false, cond, not, ◌&&◌, ◌||◌, eqb, ltb, leb, ◌⊎◌, List, length, get_or, take, set, replicate, is_some, Some, None, Option, sym, ap, ◌∙◌, inl, inr, arith, length-take, get_or-take}
+use Rattle.std.proofs.Common.{◌≡◌, ℕ, ◌+◌, ◌<◌, ◌≤◌, Bool, true, false, cond, not, ◌&&◌, ◌||◌, eqb, ltb, leb, ◌⊎◌, List, length, get_or, take, set, replicate, is_some, Some, None, Option, Ok, Err, Result, sym, ap, ◌∙◌, inl, inr, arith, length-take, get_or-take}
 use mathlib.Core.Path.{fun_ext}
 use lib.ListN.{length-replicate}
 use Rattle.std.proofs.ByRecursion.{All-get_or}
 use Rattle.std.proofs.lemmas.List.{get_or-set_other, get_or_past, get_or-replicate}
-use Rattle.std.proofs.lemmas.Bool.{cases_lt, cases_order, eqb-true}
+use Rattle.std.proofs.lemmas.Bool.{cases_lt, cases_Bool, cases_order, eq-eqb, eqb-true, false≢true}
 use Rattle.std.proofs.lemmas.Bool.Decides.{nat_tests}
+use Rattle.std.specs.Bool.{then_some}
+use Rattle.std.specs.Result.{result_ok}
+use Rattle.std.specs.Option.{MatchOption}
+use Rattle.std.specs.List.Sorted.{IsSearchInRange, IsBinarySearchResult, IsNonDecreasingBy}
+use Rattle.std.specs.Ordering.{nat_cmp, ordering_index}
+use Rattle.std.proofs.lemmas.Cmp.{ranked}
+use Rattle.std.proofs.lemmas.List.Sorted.{IsNonDecreasingBy-from_default}
 use Rattle.plex.specs.Sets.{Agreement, among}
 use Rattle.plex.specs.Meaning.{agree_by}
 use Rattle.pruning.specs.Pruned.{agreements}
 use Rattle.fileword.specs.Layout.{kind, load, upper, lower, pair_word}
 use Rattle.tables.specs.Pairs.{pair_or_struck, stands, out_of_order, left_over, pairs_to}
 use Rattle.pairing.specs.Naming.{names}
-use Rattle.tables.specs.Lookup.{Parts, Found}
-use Rattle.tables.proofs.Among.{among_at, among_place, among_front, test_fails, agree_same}
+use Rattle.tables.specs.Lookup.{Found}
+use Rattle.tables.proofs.Among.{among_at, among_place, among_front, test_fails}
 use Rattle.tables.proofs.PairLists.{PairOf, length_pairs, pairs_good, pairs_rise, pairs_name}
 
 -- what the tests of a place say
@@ -131,24 +138,10 @@ module _ (ws : List ℕ) (len n k : ℕ) (r : Agreement) (marks : n ≡ k) (few 
 
   pub made_agrees : ((i j : ℕ) → r i j ≡ r j i) → ((i : ℕ) → r i i ≡ false) → ((i j : ℕ) → k ≤ i → r i j ≡ false) → agree_by n (names ws) ≡ r
   made_agrees both self inside =
-      fun_ext (agree_same n (names ws) (names (pairs_to n n r)) made_names) ∙ fun_ext (λ i. fun_ext (pairs_name n r under both self (λ i j h. inside i j (omega arith)) i))
+      ap (agree_by n) (fun_ext (λ a. fun_ext (made_names a))) ∙ fun_ext (λ i. fun_ext (pairs_name n r under both self (λ i j h. inside i j (omega arith)) i))
 
--- looking up by halves
+-- looking a word up by its load
 module _ (ws : List ℕ) (len : ℕ) (rises : (p q : ℕ) → out_of_order ws len p q ≡ false) where
-  pub lower_half : (l mid : ℕ) → mid < len → load (get_or ws mid 0) < l → (p : ℕ) → p < mid + 1 → load (get_or ws p 0) < l
-  lower_half l mid m h p k =
-      elim (cases_lt p mid) [
-        | inl a ↦ omega (arith, in_order ws len p mid (rises p mid) a m)
-        | inr a ↦ (let e : p ≡ mid = omega arith in omega (arith, ap (λ q. load (get_or ws q 0)) e))
-      ]
-
-  pub upper_half : (l mid : ℕ) → l ≤ load (get_or ws mid 0) → (p : ℕ) → mid ≤ p → p < len → l ≤ load (get_or ws p 0)
-  upper_half l mid h p k m =
-      elim (cases_lt mid p) [
-        | inl a ↦ omega (arith, in_order ws len mid p (rises mid p) a m)
-        | inr a ↦ (let e : p ≡ mid = omega arith in omega (arith, ap (λ q. load (get_or ws q 0)) e))
-      ]
-
   -- each load is at one place
   pub one_place : (p q : ℕ) → p < len → q < len → load (get_or ws p 0) ≡ load (get_or ws q 0) → p ≡ q
   one_place p q l m e =
@@ -161,24 +154,52 @@ module _ (ws : List ℕ) (len : ℕ) (rises : (p q : ℕ) → out_of_order ws le
             ]
       ]
 
-  -- a word that is not at the place that parts its load is nowhere
-  pub not_found : (w at : ℕ) → 0 < w → ((p : ℕ) → len ≤ p → get_or ws p 0 ≡ 0) → Parts ws len (load w) at → (at < len → get_or ws at 0 ≡ w → ⊥) →
-      among ws w ≡ false
-  not_found w at pos zeros c h =
+  -- where the words behind are 0, a word that none of the first ones is, is nowhere
+  nowhere : (w : ℕ) → 0 < w → ((p : ℕ) → len ≤ p → get_or ws p 0 ≡ 0) → ((p : ℕ) → p < len → get_or ws p 0 ≡ w → ⊥) → among ws w ≡ false
+  nowhere w pos zeros h =
       test_fails (among ws w) (λ t.
       let r = among_place ws w t in
-      let p = r.0 in
-      elim (cases_lt p len) [
-        | inr l ↦ omega (arith, zeros p l, r.2)
-        | inl l ↦
-            elim (cases_order p at) [
-              | inl e ↦ h (omega arith) (ap (λ q. get_or ws q 0) (sym e) ∙ r.2)
-              | inr o ↦
-                  elim o [
-                    | inl b ↦ omega (arith, c.before p b, ap load r.2)
-                    | inr b ↦ omega (arith, in_order ws len at p (rises at p) b l, c.after at (omega arith) (omega arith), ap load r.2)
-                  ]
-            ]
+      elim (cases_lt r.0 len) [ inl l ↦ h r.0 l r.2 | inr l ↦ omega (arith, zeros r.0 l, r.2) ])
+
+  -- the comparisons of loads rise along the words, as a binary search asks
+  loads_rise : len ≤ length ws → (l : ℕ) → IsNonDecreasingBy (λ w. ordering_index (nat_cmp (load w) l)) (take len ws)
+  loads_rise room l =
+      IsNonDecreasingBy-from_default (λ w. ordering_index (nat_cmp (load w) l)) (take len ws) 0 (λ i j le lt.
+      let m : j < len = omega (arith, simp length-take at lt) in
+      higher (load (get_or (take len ws) i 0)) (load (get_or (take len ws) j 0))
+      (rw (get_or-take len ws i 0 (omega arith), get_or-take len ws j 0 m) (up i j le m)))
+    where
+      higher : (a b : ℕ) → a ≤ b → ordering_index (nat_cmp a l) ≤ ordering_index (nat_cmp b l)
+      higher a b le = grind (arith, nat_tests)
+
+      up : (i j : ℕ) → i ≤ j → j < len → load (get_or ws i 0) ≤ load (get_or ws j 0)
+      up i j le m =
+          elim (cases_lt i j) [
+            | inl k ↦ omega (arith, in_order ws len i j (rises i j) k m)
+            | inr k ↦ (let e : i ≡ j = omega arith in omega (arith, ap (λ q. load (get_or ws q 0)) e))
+          ]
+
+  -- what a search by the load of a word says of that word
+  pub looked_up : (w : ℕ) → 0 < w → ((p : ℕ) → len ≤ p → get_or ws p 0 ≡ 0) → (r : Result ℕ ℕ) → len ≤ length ws →
+      IsSearchInRange r (length (take len ws)) → IsBinarySearchResult (λ v. nat_cmp (load v) (load w)) (take len ws) r →
+      MatchOption (result_ok r) (among ws w ≡ false) (λ at. Found ws len w (then_some (eqb (get_or (take len ws) at 0) w) at))
+  looked_up w pos zeros (Ok at) room in_range same =
+      let l : at < len = omega (arith, simp length-take at in_range) in
+      let g = get_or-take len ws at 0 l in
+      let e : load (get_or ws at 0) ≡ load w = ap load (sym g) ∙ ranked _ (load w) _ (sym (same 0)) in
+      elim (cases_Bool (eqb (get_or (take len ws) at 0) w)) [
+        | inl y ↦ rw y (l, omega arith, sym g ∙ eqb-true (get_or (take len ws) at 0) w y)
+        | inr n ↦ rw n (nowhere w pos zeros (λ p m is.
+            false≢true (sym n ∙ eq-eqb _ w (g ∙ ap (λ q. get_or ws q 0) (one_place at p l m (e ∙ ap load (sym is))) ∙ is))))
+      ]
+  looked_up w pos zeros (Err at) room in_range parted =
+      let two = parted (loads_rise room (load w)) in
+      nowhere w pos zeros (λ p m is.
+      let k : p < length (take len ws) = simp length-take (omega arith) in
+      let e : load (get_or (take len ws) p 0) ≡ load w = ap load (get_or-take len ws p 0 m ∙ is) in
+      elim (cases_lt p at) [
+        | inl b ↦ omega (arith, e, ranked (load (get_or (take len ws) p 0)) (load w) _ (sym (two.0 p 0 (omega arith) b)))
+        | inr b ↦ omega (arith, e, ranked (load (get_or (take len ws) p 0)) (load w) _ (sym (two.1 p 0 b k)))
       ])
 
 pub found_test : (ws : List ℕ) (len w : ℕ) (o : Option ℕ) → Found ws len w o → is_some o ≡ among ws w

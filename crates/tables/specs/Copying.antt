@@ -1,5 +1,5 @@
 -- What it is to copy a sheet into a table of pairs. Assumes nothing.
-use Rattle.std.specs.Prelude.{◌≡◌, ℕ, ◌+◌, ◌<◌, ◌≤◌, Bool, true, false, ◌⊎◌, List, [], ◌∷◌, ◌++◌, length, take, Ok, Err, Result, slice_index}
+use Rattle.std.specs.Prelude.{◌≡◌, ℕ, ◌+◌, ◌<◌, ◌≤◌, ◌⊎◌, ⊤, List, [], ◌∷◌, ◌++◌, length, take, Ok, Err, Result, slice_index}
 use Rattle.plex.specs.Sets.{Set, card, below, ◌∖◌}
 use Rattle.plex.specs.Meaning.{Meaning}
 use Rattle.pruning.specs.Pruned.{agreements}
@@ -34,12 +34,14 @@ abbrev pub listed : PairList → List ℕ
 listed l = take l.len l.words
 
 -- a word was put behind the others, or there was no room
-abbrev pub Pushed : List ℕ → ℕ → Bool → List ℕ → Type 0
-Pushed xs w r ys = (r ≡ true → ys ≡ xs ++ w ∷ []) × (r ≡ false → length xs ≡ 4096)
+abbrev pub Pushed : List ℕ → ℕ → Result ⊤ TableRefusal → List ℕ → Type 0
+Pushed xs w (Ok v) ys = ys ≡ xs ++ w ∷ []
+Pushed xs w (Err e) ys = length xs ≡ 4096
 
 -- the words of mark i with the higher marks of s were put behind the others, or there was no room for them
-abbrev pub RowAdded : List ℕ → ℕ → ℕ → Set → Bool → List ℕ → Type 0
-RowAdded xs i n s r ys = (r ≡ true → ys ≡ xs ++ row_pairs i n s) × (r ≡ false → 4096 < length xs + card n (s ∖ below (i + 1)))
+abbrev pub RowAdded : List ℕ → ℕ → ℕ → Set → Result ⊤ TableRefusal → List ℕ → Type 0
+RowAdded xs i n s (Ok v) ys = ys ≡ xs ++ row_pairs i n s
+RowAdded xs i n s (Err e) ys = 4096 < length xs + card n (s ∖ below (i + 1))
 
 -- the words of all pairs were listed, or there was no room for them
 abbrev pub Listed : Meaning → Result PairList TableRefusal → Type 0

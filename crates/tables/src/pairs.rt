@@ -3,7 +3,7 @@ ghost use Rattle.std.specs.Prelude.{◌≡◌, ℕ, ◌≤◌, true, false};
 ghost use Rattle.tables.specs.Pairs.{stands, out_of_order};
 
 // The first `len` words are pair words as in a file, in the same order, or the same with kind 14 for a struck pair; the
-// others are 0.
+// others are 0. An array with its length, since no memory is asked for; it holds no list of pairs, which knows no order.
 #[derive(Clone, Copy)]
 pub struct PairTable {
     words: [u32; 4096],
@@ -19,7 +19,7 @@ pub struct PairTable {
 #[derive(Clone, Copy)]
 pub enum TableRefusal {
     // more than 4,096 agreements
-    TooManyAgreements,
+    TooManyAgreements = 31,
 }
 
 pub mod copying;

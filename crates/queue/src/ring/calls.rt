@@ -9,9 +9,7 @@ impl QueueRefusal {
     pub fn number(self) -> u32
         ensures { result ≡ number self }
     {
-        match self {
-            QueueRefusal::Full => 45,
-        }
+        self as u32
     }
 }
 
@@ -52,6 +50,7 @@ impl<'a, T: Copy> Queue<'a, T> {
         if self.len == all {
             return Err(QueueRefusal::Full);
         }
+        // not by `%`: the sum may be past every number where elements take no memory
         let room = all - self.head;
         let at = if self.len < room {
             self.head + self.len
@@ -60,6 +59,7 @@ impl<'a, T: Copy> Queue<'a, T> {
         };
         self.places[at] = x;
         self.len += 1;
+        // an accepted call that has no other answer answers 0, as the rules say
         Ok(0)
     }
 
@@ -67,17 +67,11 @@ impl<'a, T: Copy> Queue<'a, T> {
     pub fn pop(&mut self) -> Option<T>
         ensures { Took self.old result self.new }
     {
-        if self.len == 0 {
-            return None;
-        }
-        let head = if self.head == self.places.len() {
-            0
-        } else {
-            self.head
-        };
+        let left = self.len.checked_sub(1)?;
+        let head = self.head % self.places.len();
         let x = self.places[head];
         self.head = head + 1;
-        self.len -= 1;
+        self.len = left;
         Some(x)
     }
 }

@@ -1,7 +1,7 @@
 // Beginning an entry, entering pairs, and sealing.
-ghost use Rattle.std.specs.Prelude.{◌≡◌, ℕ, ◌+◌, ◌*◌, ◌/◌, ◌%◌, ◌^◌, ◌<◌, ◌≤◌, length, replicate, Ok, Err, bit_or, slice_index, slice_set};
+ghost use Rattle.std.specs.Prelude.{◌≡◌, ℕ, ◌+◌, ◌*◌, ◌/◌, ◌%◌, ◌^◌, ◌<◌, ◌≤◌, length, Ok, Err, bit_or, slice_index, slice_set};
 ghost use Rattle.sheet.specs.contracts.entry.questions.SealedSheet.TheImpl.{ghosts};
-ghost use Rattle.sheet.specs.Rows.{row_words, bit_entered, marks_held, LeastWords};
+ghost use Rattle.sheet.specs.Rows.{row_words, bit_entered, LeastWords};
 ghost use Rattle.sheet.specs.Entering.{number, entered, Begins, Enters};
 
 use super::{Entry, EntryRefusal, NotBegun, Sealed};
@@ -10,12 +10,7 @@ impl EntryRefusal {
     pub fn number(self) -> u32
         ensures { result ≡ number self }
     {
-        match self {
-            EntryRefusal::TooManyMarks => 21,
-            EntryRefusal::TooFewWords => 22,
-            EntryRefusal::NoSuchMark => 23,
-            EntryRefusal::SameMark => 24,
-        }
+        self as u32
     }
 }
 
@@ -24,7 +19,7 @@ pub(crate) fn words_in_row(marks: u32) -> usize
     requires { marks ≤ 128 }
     ensures { result ≡ row_words marks }
 {
-    (marks as usize + 31) / 32
+    (marks as usize).div_ceil(32)
 }
 
 // Sets bit j of a row.
@@ -33,23 +28,6 @@ fn set_bit(row: &mut [u32], j: u32)
     ensures { row.new ≡ slice_set row.old (j / 32) (bit_or (slice_index row.old (j / 32)) (2 ^ (j % 32))) }
 {
     row[j as usize / 32] |= 1 << (j % 32);
-}
-
-fn clear(part: &mut [u32])
-    ensures { part.new ≡ replicate (length part.old) 0 }
-{
-    part.fill(0);
-}
-
-// How many marks have rows in so many words.
-fn held(room: usize, marks: u32) -> u32
-    ensures { result ≡ marks_held room marks }
-{
-    if marks <= 128 && marks as usize * words_in_row(marks) <= room {
-        marks
-    } else {
-        0
-    }
 }
 
 impl<'a> Entry<'a> {
@@ -72,7 +50,7 @@ impl<'a> Entry<'a> {
                 words,
             });
         }
-        clear(&mut words[0..rows]);
+        words[..rows].fill(0);
         Ok(Entry { words, marks })
     }
 
@@ -82,8 +60,7 @@ impl<'a> Entry<'a> {
         ensures lent { self.new.words.ghost_name ≡ self.old.words.ghost_name }
         ensures enters { Enters self.old.words.now self.old.marks i j result self.new.words.now }
     {
-        let marks = held(self.words.len(), self.marks);
-        if i >= marks || j >= marks {
+        if i >= self.marks || j >= self.marks {
             return Err(EntryRefusal::NoSuchMark);
         }
         if i == j {
@@ -91,12 +68,14 @@ impl<'a> Entry<'a> {
         }
         self.enter_bit(i, j);
         self.enter_bit(j, i);
+        // an accepted call that has no other answer answers 0, as the rules say
         Ok(0)
     }
 
     // Sets bit j of the row of mark i: the row is lent to the setter.
     fn enter_bit(&mut self, i: u32, j: u32)
-        requires { (i < marks_held (length self.old.words.now) self.old.marks) × (j < marks_held (length self.old.words.now) self.old.marks) }
+        requires first { i < self.old.marks }
+        requires second { j < self.old.marks }
         ensures marks { self.new.marks ≡ self.old.marks }
         ensures lent { self.new.words.ghost_name ≡ self.old.words.ghost_name }
         ensures words { self.new.words.now ≡ bit_entered self.old.words.now (row_words self.old.marks) i j }
@@ -109,11 +88,10 @@ impl<'a> Entry<'a> {
     // The sheet that was entered. It takes no more agreements.
     pub fn seal(self) -> Sealed<'a>
         ensures words { result.words.now ≡ self.entry.words.now }
-        ensures marks { result.marks ≡ marks_held (length self.entry.words.now) self.entry.marks }
+        ensures marks { result.marks ≡ self.entry.marks }
         ensures agreement { (i j : ℕ) → (ghosts.meaning result).agrees i j ≡ entered self.entry.words.now self.entry.marks i j }
     {
         let Entry { words, marks } = self;
-        let marks = held(words.len(), marks);
         Sealed { words, marks }
     }
 }

@@ -11,6 +11,7 @@ fn rows_of<S: Sheet>(sheet: &S) -> [[u32; 4]; 128]
     ensures { bit_agrees result ≡ (S.Sheet.meaning sheet.now).agrees }
 {
     let mut rows = [[0; 4]; 128];
+    // by number: over rows that are lent one by one, `zip` hides them from the loop's invariant
     for i in 0..sheet.marks() {
         rows[i as usize] = sheet.row(i);
     }

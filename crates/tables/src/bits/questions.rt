@@ -6,6 +6,7 @@ ghost use Rattle.tables.specs.Bits.{bit_agrees};
 ghost use Rattle.tables.specs.Meanings.{bit_meaning};
 
 use super::BitTable;
+use marks::set::MarkSet;
 use sheet::kinds::{Sheet, Strike};
 
 impl Sheet for BitTable {
@@ -16,24 +17,19 @@ impl Sheet for BitTable {
     }
 
     fn agree(&self, i: u32, j: u32) -> bool {
-        i < 128 && j < 128 && (self.rows[i as usize][j as usize / 32] >> (j % 32)) & 1 == 1
+        i < 128 && MarkSet::from_words(self.rows[i as usize]).has(j)
     }
 
     fn row(&self, i: u32) -> [u32; 4] {
-        if i < 128 {
-            self.rows[i as usize]
-        } else {
-            [0; 4]
-        }
+        self.rows.get(i as usize).copied().unwrap_or([0; 4])
     }
 }
 
 // Takes a mark out of a row.
 fn clear_bit(row: &mut [u32; 4], mark: u32)
-    requires { mark < 128 }
     ensures { holds row.new ≡ holds row.old ∖ only mark }
 {
-    row[mark as usize / 32] &= !(1 << (mark % 32));
+    *row = MarkSet::from_words(*row).without(mark).words();
 }
 
 // Takes each mark of a pair out of the other's row.

@@ -4,16 +4,13 @@ ghost use Rattle.tables.specs.Copying.{number, Listed, Copied};
 
 use super::listing::PairList;
 use super::{PairTable, TableRefusal};
-use marks::set::MarkSet;
-use sheet::kinds::Sheet;
+use sheet::kinds::{Sheet, neighbours};
 
 impl TableRefusal {
     pub fn number(self) -> u32
         ensures { result ≡ number self }
     {
-        match self {
-            TableRefusal::TooManyAgreements => 31,
-        }
+        self as u32
     }
 }
 
@@ -24,9 +21,7 @@ fn pairs_of<S: Sheet>(sheet: &S) -> Result<PairList, TableRefusal>
     let marks = sheet.marks();
     let mut list = PairList::empty();
     for i in 0..marks {
-        if !list.add_row(MarkSet::from_words(sheet.row(i)), i, marks) {
-            return Err(TableRefusal::TooManyAgreements);
-        }
+        list.add_row(neighbours(sheet, i), i, marks)?;
     }
     Ok(list)
 }
@@ -36,11 +31,10 @@ impl PairTable {
     pub fn copy_of<S: Sheet>(sheet: &S) -> Result<PairTable, TableRefusal>
         ensures { Copied (S.Sheet.meaning sheet.now) result }
     {
-        let list = pairs_of(sheet)?;
-        let words = list.words;
+        let PairList { words, len } = pairs_of(sheet)?;
         Ok(PairTable {
             words,
-            len: list.len,
+            len,
             marks: sheet.marks(),
         })
     }

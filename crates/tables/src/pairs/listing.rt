@@ -2,7 +2,7 @@
 ghost use Rattle.std.specs.Prelude.{◌≡◌, ℕ, ◌≤◌, false};
 ghost use Rattle.tables.specs.Pairs.{left_over};
 
-// Words, and zeros behind them.
+// Words, and zeros behind them: an array with its length, since no memory is asked for.
 #[derive(Clone, Copy)]
 pub(crate) struct PairList {
     pub(crate) words: [u32; 4096],

@@ -5,6 +5,7 @@ use super::PairTable;
 use fileword::layout::word_of_pair;
 use pairing::row_among;
 use sheet::kinds::{Sheet, Strike};
+use sheet::two::two_marks;
 
 // What striking adds to the word of a pair: its kind, 2, becomes 14.
 const STRUCK: u32 = 0xC000_0000;
@@ -17,12 +18,12 @@ impl Sheet for PairTable {
     }
 
     fn agree(&self, i: u32, j: u32) -> bool {
-        i < self.marks && j < self.marks && i != j && self.names(i.min(j), i.max(j))
+        two_marks(self.marks, i, j).is_some_and(|(a, b)| self.names(a, b))
     }
 
     // In one pass over the pairs.
     fn row(&self, i: u32) -> [u32; 4] {
-        row_among(&self.words[0..self.len], self.marks, i)
+        row_among(&self.words[..self.len], self.marks, i)
     }
 }
 
@@ -30,16 +31,14 @@ impl Strike for PairTable {
     ghost lasting = { loads };
 
     fn strike(&mut self, i: u32, j: u32) -> bool {
-        if i >= self.marks || j >= self.marks || i == j {
+        let Some((a, b)) = two_marks(self.marks, i, j) else {
             return false;
-        }
-        let word = word_of_pair(i.min(j), i.max(j));
-        match self.find(word) {
-            Some(at) => {
-                self.words[at] = word + STRUCK;
-                true
-            }
-            None => false,
-        }
+        };
+        let word = word_of_pair(a, b);
+        let Some(at) = self.find(word) else {
+            return false;
+        };
+        self.words[at] = word + STRUCK;
+        true
     }
 }

@@ -4,6 +4,7 @@ ghost use Rattle.marks.specs.Members.{members};
 ghost use Rattle.tables.specs.Copying.{listed, Pushed, RowAdded};
 
 use super::PairList;
+use crate::pairs::TableRefusal;
 use fileword::layout::word_of_pair;
 use marks::set::MarkSet;
 
@@ -17,29 +18,29 @@ impl PairList {
         }
     }
 
-    // Puts a word behind the others, and says whether there was room.
-    fn push(&mut self, word: u32) -> bool
+    // Puts a word behind the others, if there is room.
+    fn push(&mut self, word: u32) -> Result<(), TableRefusal>
         ensures { Pushed (listed self.old) word result (listed self.new) }
     {
         let at = self.len;
         if at == 4096 {
-            return false;
+            return Err(TableRefusal::TooManyAgreements);
         }
         self.len += 1;
         self.words[at] = word;
-        true
+        Ok(())
     }
 
-    // Adds the words of mark i with the higher marks of its row, and says whether there was room.
-    pub(crate) fn add_row(&mut self, row: MarkSet, i: u32, marks: u32) -> bool
+    // Adds the words of mark i with the higher marks of its row, if there is room.
+    pub(crate) fn add_row(&mut self, row: MarkSet, i: u32, marks: u32) -> Result<(), TableRefusal>
         requires { (i < marks) × (marks ≤ 128) }
         ensures { RowAdded (listed self.old) i marks (members row) result (listed self.new) }
     {
         for j in i + 1..marks {
-            if row.has(j) && !self.push(word_of_pair(i, j)) {
-                return false;
+            if row.has(j) {
+                self.push(word_of_pair(i, j))?;
             }
         }
-        true
+        Ok(())
     }
 }

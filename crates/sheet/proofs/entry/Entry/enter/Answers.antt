@@ -1,6 +1,6 @@
-use Rattle.std.proofs.Common.{◌<◌, length, refl, ap, ◌∙◌, arith}
-use Rattle.sheet.specs.Rows.{row_words, bit_entered, marks_held}
-use Rattle.sheet.proofs.Entering.{entered_pair, entered_again, entered_holding, entered_behind, entered_spare}
+use Rattle.std.proofs.Common.{◌<◌, refl, ap, ◌∙◌, arith}
+use Rattle.sheet.specs.Rows.{row_words, bit_entered}
+use Rattle.sheet.proofs.Entering.{entered_pair, entered_again, entered_behind, entered_spare}
 use Rattle.sheet.proofs.entry.Entry.enter.Goals as goal
 
 pub returns : goal.returns
@@ -11,8 +11,8 @@ returns c =
     let ws' = c.enter_bit-2.new.self.words.now in
     let i = c.args.i in
     let j = c.args.j in
-    let hi : i < marks_held (length ws) n = omega (arith, c.held-marks.ensures) in
-    let hj : j < marks_held (length ws) n = omega (arith, c.held-marks.ensures) in
+    let hi : i < n = omega arith in
+    let hj : j < n = omega arith in
     let one = c.enter_bit.ensures in
     let two = c.enter_bit-2.ensures in
     let is = two.words ∙ ap (λ xs. bit_entered xs (row_words c.enter_bit.new.self.marks) j i) one.words
@@ -26,10 +26,9 @@ returns c =
         second = hj;
         apart = c.if-i-j.false;
         words = is;
-        agreement = entered_pair ws n i j hi hj c.if-i-j.false ws' is;
-        again = entered_again ws n i j hi hj c.if-i-j.false ws' is;
-        holding = entered_holding ws n i j hi hj c.if-i-j.false ws' is;
-        behind = entered_behind ws n i j hi hj c.if-i-j.false ws' is;
-        spare = entered_spare ws n i j hi hj c.if-i-j.false ws' is;
+        agreement = entered_pair ws n i j hi hj c.if-i-j.false e.fits ws' is;
+        again = entered_again ws n i j hi hj c.if-i-j.false e.fits ws' is;
+        behind = entered_behind ws n i j hi hj c.if-i-j.false e.fits ws' is;
+        spare = entered_spare ws n i j hi hj c.if-i-j.false e.fits ws' is;
       };
     }

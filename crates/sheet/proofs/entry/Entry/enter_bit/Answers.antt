@@ -3,15 +3,14 @@ use lib.Bits.{bit_or}
 use borrow.Rule.Slice.PartMut.{put_mid}
 use Rattle.sheet.specs.Rows.{bit_entered}
 use Rattle.sheet.proofs.Parts.{part_set, part_at}
-use Rattle.sheet.proofs.Bits.{held_few, bit_in_row, row_in_words}
+use Rattle.sheet.proofs.Bits.{bit_in_row, row_in_words}
 use Rattle.sheet.proofs.entry.Entry.enter_bit.Goals as goal
 
 pub slice_bounds-set_bit-end : goal.slice_bounds-set_bit-end
 slice_bounds-set_bit-end c =
     let e = c.args.self.now in
-    let hi = held_few (length e.words.now) e.marks c.args.i c.requires.0 in
     let s = ap (λ r. c.args.i * r) c.words_in_row-r.ensures in
-    omega (arith, row_in_words e.marks c.args.i c.args.i hi.0 hi.0, c.words_in_row-r.ensures, hi.2)
+    omega (arith, row_in_words e.marks c.args.i c.args.i c.requires.first c.requires.first, c.words_in_row-r.ensures, e.fits)
 
 pub returns : goal.returns
 returns c =
@@ -24,11 +23,11 @@ returns c =
     let a = i * r in
     let k = a + r - a in
     let is = c.words_in_row-r.ensures in
-    let hi = held_few (length ws) n i c.requires.0 in
-    let hj = held_few (length ws) n j c.requires.1 in
+    let hi = c.requires.first in
+    let hj = c.requires.second in
     let s = ap (λ x. i * x) is in
-    let l : a + k ≤ length ws = omega (arith, row_in_words n i j hi.0 hj.0, hi.2) in
-    let p : j / 32 < k = omega (arith, bit_in_row n i j hi.0 hj.0) in
+    let l : a + k ≤ length ws = omega (arith, row_in_words n i j hi hj, e.fits) in
+    let p : j / 32 < k = omega (arith, bit_in_row n i j hi hj) in
     record {
       marks = refl;
       lent = refl;

@@ -5,10 +5,10 @@ use Rattle.tables.proofs.pairs.PairTable.copy_of.Goals as goal
 pub invariant_of-result : goal.invariant_of-result
 invariant_of-result g c =
     let m = g.S.Sheet.meaning c.args.sheet.now in
-    let l = c.in_ok-list.list in
+    let l = c.in_ok-words.field-0 in
     let n = c.marks.result in
     let e = c.marks.ensures in
-    let is = c.in_ok-list.ensures in
+    let is = c.in_ok-words.ensures in
     let long : length l.words ≡ 4096 = search rules in
     let room : l.len ≤ length l.words = omega (arith, l.room) in record {
       few = omega (arith, m.few, e);
@@ -20,10 +20,10 @@ invariant_of-result g c =
 pub returns : goal.returns
 returns g c =
     let m = g.S.Sheet.meaning c.args.sheet.now in
-    let l = c.in_ok-list.list in
+    let l = c.in_ok-words.field-0 in
     let n = c.marks.result in
     let e = c.marks.ensures in
-    let is = c.in_ok-list.ensures in
+    let is = c.in_ok-words.ensures in
     let long : length l.words ≡ 4096 = search rules in
     let room : l.len ≤ length l.words = omega (arith, l.room) in
     record {

@@ -1,6 +1,5 @@
 use Rattle.std.proofs.Common.{◌≡◌, length, arith, rules}
 use Rattle.std.proofs.lemmas.List.{take_more_set}
-use Rattle.std.proofs.lemmas.Bool.{true≢false}
 use Rattle.tables.proofs.Places.{blank_pushed}
 use Rattle.tables.proofs.pairs.listing.PairList.push.Goals as goal
 
@@ -13,4 +12,4 @@ pub returns : goal.returns
 returns c =
     let t = c.args.self.now in
     let l : length t.words ≡ 4096 = search rules in
-    (λ _. take_more_set t.words t.len c.args.word (omega (arith, t.room)), λ e. absurd (true≢false e))
+    take_more_set t.words t.len c.args.word (omega (arith, t.room))
