@@ -7,6 +7,7 @@ use crate::verdict::verdict;
 use text::Page;
 
 // The line that is printed of a file: how many marks it has and for which k, or why it is refused.
+#[tactic(auto, using(crate::proofs::Once::one_on_bytes))]
 pub fn page(bytes: &[u8]) -> Page
     ensures printed { Printed bytes.now (shown result) }
     ensures once { OneVerdict }
@@ -28,7 +29,8 @@ pub fn page(bytes: &[u8]) -> Page
     }
 }
 
-// A line of two short texts, each with a number behind it.
+// A line of two short texts, each with a number behind it. `write!` promises the text only where it answers `Ok`, and not when it
+// does, and a page has no case that fails.
 fn numbers_line(start: &[u8], m: usize, middle: &[u8], n: usize) -> Page
     requires { (length start.now ≤ 8) × (length middle.now ≤ 8) }
     ensures { shown result ≡ start.now ++ (decimal m ++ (middle.now ++ (decimal n ++ (10 ∷ [])))) }

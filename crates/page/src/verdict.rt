@@ -1,6 +1,7 @@
 // The verdict on a file's bytes.
 ghost use Rattle.std.specs.Prelude.{◌≡◌};
 ghost use Rattle.page.specs.Verdicts.{number_of, place_of, Verdict, OneVerdict};
+ghost use Rattle.page.specs.declared.verdict.Refusal.TheVariants.{Word};
 
 use crate::words::store_words;
 use file::check::check;
@@ -18,7 +19,16 @@ pub enum Refusal {
     Word(FileRefusal),
 }
 
+impl From<FileRefusal> for Refusal {
+    ghost from_gives = { λ r s. s ≡ Word r };
+
+    fn from(of_word: FileRefusal) -> Refusal {
+        Refusal::Word(of_word)
+    }
+}
+
 impl Refusal {
+    // Not `self as u32`: one case carries a refusal of its own.
     pub fn number(self) -> u32
         ensures { result ≡ number_of self }
     {
@@ -40,6 +50,7 @@ impl Refusal {
 }
 
 // What a file is, or why it is refused.
+#[tactic(auto, using(crate::proofs::Once::one_on_bytes))]
 pub fn verdict(bytes: &[u8]) -> Result<Summary, Refusal>
     ensures verdict { Verdict bytes.now result }
     ensures once { OneVerdict }
@@ -49,8 +60,5 @@ pub fn verdict(bytes: &[u8]) -> Result<Summary, Refusal>
     }
     let mut words = [0; MOST_BYTES / 4];
     store_words(bytes, &mut words);
-    match check(&words[0..bytes.len() / 4]) {
-        Ok(summary) => Ok(summary),
-        Err(refusal) => Err(Refusal::Word(refusal)),
-    }
+    Ok(check(&words[0..bytes.len() / 4])?)
 }

@@ -1,6 +1,7 @@
 -- A list of which at most the first n elements are kept.
-use Rattle.std.proofs.Common.{◌≡◌, ℕ, zero, suc, ◌+◌, ◌<◌, ◌≤◌, List, [], ◌∷◌, ◌++◌, length, get_or, take, set, sym, refl, ap, ◌∙◌, append_assoc, append-nil, arith, length-append, length-take}
-use Rattle.std.proofs.lemmas.List.{take_all, take-append-le, take_more, take_more_set}
+use Rattle.std.proofs.Common.{◌≡◌, ℕ, zero, suc, ◌+◌, ◌-◌, ◌≤◌, List, [], ◌∷◌, ◌++◌, length, min, take, sym, refl, ap, ◌∙◌, arith, length-take}
+use Rattle.std.proofs.Math.Seq.{take-append-add}
+use Rattle.std.proofs.lemmas.List.{take_min}
 
 module _ {X : Type 0} where
   -- what was left out before more was put behind is left out after
@@ -13,26 +14,8 @@ module _ {X : Type 0} where
   pub pushed : (n : ℕ) {was after : List X} (xs ys : List X) → was ≡ take n xs → after ≡ take n (was ++ ys) → after ≡ take n (xs ++ ys)
   pushed n xs ys w a = a ∙ ap (λ (zs : List X). take n (zs ++ ys)) w ∙ take_cut_append n xs ys
 
-  -- a list that fits, with nothing behind it
-  pub fits_alone : (n : ℕ) (xs : List X) → length xs ≤ n → xs ≡ take n (xs ++ [])
-  fits_alone n xs l = sym (ap (take n) (append-nil xs) ∙ take_all n xs l)
-
-  -- the first k of xs, with one more, where there is room
-  pub push_fits : (n k : ℕ) (xs : List X) (y : X) → k < n → k < length xs → take (k + 1) (set xs k y) ≡ take n (take k xs ++ y ∷ [])
-  push_fits n k xs y l i =
-      let e : length (take k xs ++ y ∷ []) ≤ n = simp (length-append, length-take) (omega arith) in
-      take_more_set xs k y i ∙ sym (take_all n (take k xs ++ y ∷ []) e)
-
-  -- and where there is none
-  pub push_left_out : (n k : ℕ) (xs ys : List X) → k ≤ n → n ≤ k → n ≤ length xs → take k xs ≡ take n (take k xs ++ ys)
-  push_left_out n k xs ys a b l =
-      let e : n ≤ length (take k xs) = simp length-take (omega arith) in
-      let f : length (take k xs) ≤ n = simp length-take (omega arith) in
-      sym (take-append-le n (take k xs) ys e ∙ take_all n (take k xs) f)
-
-  -- of ys, which is put behind xs one by one, one more
-  pub push_more : (n i : ℕ) {was after : List X} (xs ys : List X) (d : X) → i < length ys → was ≡ take n (xs ++ take i ys) →
-      after ≡ take n (was ++ get_or ys i d ∷ []) → after ≡ take n (xs ++ take (i + 1) ys)
-  push_more n i xs ys d l w a =
-      let y = get_or ys i d ∷ [] in
-      pushed n (xs ++ take i ys) y w a ∙ ap (take n) (append_assoc xs (take i ys) y ∙ ap (λ (zs : List X). xs ++ zs) (sym (take_more ys i d l)))
+  -- of ys, which is put behind the first k of xs, as much as there is room for
+  pub put_behind : (n k : ℕ) (xs ys : List X) → k ≤ n → k ≤ length xs → take k xs ++ take (min (n - k) (length ys)) ys ≡ take n (take k xs ++ ys)
+  put_behind n k xs ys l m =
+      let e : length (take k xs) + (n - k) ≡ n = simp length-take (omega arith) in
+      ap (λ (zs : List X). take k xs ++ zs) (take_min (n - k) ys) ∙ sym (take-append-add (take k xs) ys (n - k)) ∙ ap (λ (i : ℕ). take i (take k xs ++ ys)) e
