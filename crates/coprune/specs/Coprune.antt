@@ -1,41 +1,65 @@
 -- What the steps of co-pruning do. Assumes nothing.
-use Rattle.std.specs.Prelude.{◌≡◌, ℕ, ◌+◌, ◌*◌, ◌<◌, Bool, true, false, ◌&&◌, length}
+use Rattle.std.specs.Prelude.{◌≡◌, ℕ, ◌+◌, ◌*◌, ◌<◌, Bool, true, false, ◌&&◌, List}
 use Rattle.plex.specs.Meaning.{Meaning}
 use Rattle.plex.specs.Sets.{Set}
-use Rattle.queue.specs.declared.ring.Queue.{Queue}
-use Rattle.queue.specs.Waits.{held, waiting}
-use Rattle.pruning.specs.Pruned.{Kept, offends, agreements_at_ends}
+use Rattle.pruning.specs.Pruned.{Kept, Largest, offends, agreements_at_ends}
+use Rattle.coprune.specs.declared.limits.Limits.{Limits}
+use Rattle.coprune.specs.declared.waiting.Waiting.{Waiting}
+use Rattle.coprune.specs.Waiting.{SameRoom, room, how_many}
+
+-- what a kind of sheets says of them: what each means, and what striking never changes of it
+abbrev pub Kind : Type 0 → Type 0
+Kind S = record { meaning : S → Meaning; lasting : S → List ℕ }
+
+-- what a sheet means after is related to what it meant before, and what striking never changes did not change
+pub record Strikes {S : Type 0} (kind : Kind S) (related : Meaning → Meaning → Type 0) (before after : S) : Type 0 where
+  pub means : related (kind.meaning before) (kind.meaning after)
+  pub lasts : kind.lasting after ≡ kind.lasting before
 
 -- m' is what is left of m after some agreements that may not stay were struck
-pub record Wears (a b : ℕ) (m m' : Meaning) : Type 0 where
+pub record Wears (l : Limits) (m m' : Meaning) : Type 0 where
   pub marks : m'.marks ≡ m.marks
-  pub kept : Kept m.marks a b m.agrees m'.agrees
+  pub kept : Kept m.marks l.ends l.shared m.agrees m'.agrees
 
 abbrev pub at_ends : Meaning → ℕ
 at_ends m = agreements_at_ends m.marks m.agrees
 
 -- an agreement that may not stay
-abbrev pub bad : ℕ → ℕ → Meaning → ℕ → ℕ → Bool
-bad a b m i j = m.agrees i j && offends m.marks a b m.agrees i j
+abbrev pub bad : Limits → Meaning → ℕ → ℕ → Bool
+bad l m i j = m.agrees i j && offends m.marks l.ends l.shared m.agrees i j
+
+-- some agreements were looked at, and those that may not stay were struck, if there were any
+pub record Worn (l : Limits) (was_struck : Bool) (m m' : Meaning) : Type 0 where
+  pub wears : Wears l m m'
+  pub fewer : was_struck ≡ true → at_ends m' < at_ends m
 
 -- the agreement of i and j was looked at, and struck if it may not stay
-pub record Looks (a b : ℕ) (m : Meaning) (i j : ℕ) (was_struck : Bool) (m' : Meaning) : Type 0 where
-  pub wears : Wears a b m m'
-  pub said : was_struck ≡ bad a b m i j
-  pub fewer : was_struck ≡ true → at_ends m' < at_ends m
+pub record Looks (l : Limits) (i j : ℕ) (was_struck : Bool) (m m' : Meaning) : Type 0 where
+  pub worn : Worn l was_struck m m'
+  pub said : was_struck ≡ bad l m i j
 
 -- the agreements of i with the marks of a set were looked at
-pub record LooksAmong (a b : ℕ) (m : Meaning) (i : ℕ) (others : Set) (was_struck : Bool) (m' : Meaning) : Type 0 where
-  pub wears : Wears a b m m'
-  pub fewer : was_struck ≡ true → at_ends m' < at_ends m
-  pub fine : was_struck ≡ false → (j : ℕ) → others j ≡ true → bad a b m i j ≡ false
+pub record LooksAmong (l : Limits) (i : ℕ) (others : Set) (was_struck : Bool) (m m' : Meaning) : Type 0 where
+  pub worn : Worn l was_struck m m'
+  pub fine : was_struck ≡ false → (j : ℕ) → others j ≡ true → bad l m i j ≡ false
 
 -- all agreements were looked at
-pub record Sweeps (a b : ℕ) (m : Meaning) (was_struck : Bool) (m' : Meaning) : Type 0 where
-  pub wears : Wears a b m m'
-  pub fewer : was_struck ≡ true → at_ends m' < at_ends m
-  pub fine : was_struck ≡ false → (m' ≡ m) × ((i j : ℕ) → bad a b m i j ≡ false)
+pub record Sweeps (l : Limits) (was_struck : Bool) (m m' : Meaning) : Type 0 where
+  pub worn : Worn l was_struck m m'
+  pub fine : was_struck ≡ false → (m' ≡ m) × ((i j : ℕ) → bad l m i j ≡ false)
+
+-- after a look nothing else has changed where no agreement was struck, and as many may wait as before
+pub record Steps {S : Type 0} (kind : Kind S) (related : Bool → Meaning → Meaning → Type 0) (s : S) (w : Waiting) (was_struck : Bool) (s' : S)
+    (w' : Waiting) : Type 0 where
+  pub strikes : Strikes kind (related was_struck) s s'
+  pub idle : was_struck ≡ false → (s' ≡ s) × (w' ≡ w)
+  pub room : SameRoom w w'
 
 -- what is left to do at most: either an agreement is struck, and as many may wait as there are places, or fewer wait
-abbrev pub work : {T U : Type 0} → Meaning → Queue T → Queue U → ℕ
-work m p q = at_ends m * (length (held p) + length (held q) + 1) + (length (waiting p) + length (waiting q))
+abbrev pub work : Meaning → Waiting → ℕ
+work m w = at_ends m * (room w + 1) + how_many w
+
+-- no agreement is left that may not stay, and none is struck that may
+pub record Ends (l : Limits) (m m' : Meaning) : Type 0 where
+  pub marks : m'.marks ≡ m.marks
+  pub largest : Largest m.marks l.ends l.shared m.agrees m'.agrees

@@ -7,3 +7,4 @@ pub mod prune;
 pub mod refusal;
 pub mod rows;
 mod sweep;
+mod waiting;

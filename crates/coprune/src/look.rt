@@ -1,14 +1,13 @@
 // Looking at agreements again: those that may not stay are struck, and what a strike may have spoilt waits to be looked at.
-ghost use Rattle.std.specs.Prelude.{◌≡◌, ℕ, ◌+◌, false, length, Result, ◌==◌};
-ghost use Rattle.queue.specs.declared.ring.QueueRefusal.{QueueRefusal};
-ghost use Rattle.queue.specs.Waits.{held, Put};
+ghost use Rattle.std.specs.Prelude.{◌≡◌, ◌+◌, ◌==◌};
 ghost use Rattle.marks.specs.Members.{members};
-ghost use Rattle.coprune.specs.Coprune.{Looks, LooksAmong};
+ghost use Rattle.coprune.specs.Coprune.{Steps, Looks, LooksAmong};
+ghost use Rattle.coprune.specs.Waiting.{SameRoom};
 
 use crate::limits::Limits;
 use crate::rows::is_offending;
+use crate::waiting::Waiting;
 use marks::set::MarkSet;
-use queue::ring::Queue;
 use sheet::kinds::{Sheet, Strike, neighbours};
 
 // Two marks.
@@ -18,45 +17,41 @@ pub struct Pair {
     pub b: u32,
 }
 
-// Has x wait. Where the queue is full it does not: a later sweep over all agreements looks at it.
-fn wait<T: Copy>(queue: &mut Queue<T>, x: T)
-    ensures { (r : Result ℕ QueueRefusal) × Put queue.old x r queue.new }
-{
-    let _ = queue.push(x);
-}
-
 // Whether a number is one too low: it was enough before the last strike.
 fn just_short(number: u32, needed: u32) -> bool
     ensures { result ≡ (number + 1 == needed) }
 {
-    number < needed && needed - number == 1
+    needed.checked_sub(number) == Some(1)
 }
 
 // After a strike at mark i: it waits if it now has one agreement too few.
-fn note_mark<S: Sheet>(sheet: &S, limits: Limits, i: u32, marks: &mut Queue<u32>)
-    ensures { length (held marks.new) ≡ length (held marks.old) }
+fn note_mark<S: Sheet>(sheet: &S, limits: Limits, i: u32, waiting: &mut Waiting)
+    ensures { SameRoom waiting.old waiting.new }
 {
     if just_short(neighbours(sheet, i).count(), limits.ends) {
-        wait(marks, i);
+        waiting.add_mark(i);
     }
 }
 
-// After a strike of u and v: a mark that agrees with both is shared by one fewer with each of them.
-fn note_pairs<S: Sheet>(sheet: &S, limits: Limits, u: u32, v: u32, pairs: &mut Queue<Pair>)
-    ensures { length (held pairs.new) ≡ length (held pairs.old) }
+// A pair waits if its marks now share one mark too few; the set is what they share.
+fn note_pair(limits: Limits, pair: Pair, shared: MarkSet, waiting: &mut Waiting)
+    ensures { SameRoom waiting.old waiting.new }
 {
-    let of_u = neighbours(sheet, u);
-    let of_v = neighbours(sheet, v);
-    let mut both = of_u.and(of_v);
-    while let Some(w) = both.lowest() {
-        both = both.without(w);
+    if just_short(shared.count(), limits.shared) {
+        waiting.add_pair(pair);
+    }
+}
+
+// After a strike of a pair: a mark that agrees with both of its marks now shares one mark less with each of them.
+fn note_pairs<S: Sheet>(sheet: &S, limits: Limits, pair: Pair, waiting: &mut Waiting)
+    ensures { SameRoom waiting.old waiting.new }
+{
+    let of_a = neighbours(sheet, pair.a);
+    let of_b = neighbours(sheet, pair.b);
+    for w in of_a.and(of_b).rising() {
         let of_w = neighbours(sheet, w);
-        if just_short(of_u.and(of_w).count(), limits.shared) {
-            wait(pairs, Pair { a: u, b: w });
-        }
-        if just_short(of_v.and(of_w).count(), limits.shared) {
-            wait(pairs, Pair { a: v, b: w });
-        }
+        note_pair(limits, Pair { a: pair.a, b: w }, of_a.and(of_w), waiting);
+        note_pair(limits, Pair { a: pair.b, b: w }, of_b.and(of_w), waiting);
     }
 }
 
@@ -65,21 +60,17 @@ pub(crate) fn look_at_pair<S: Strike>(
     sheet: &mut S,
     limits: Limits,
     pair: Pair,
-    marks: &mut Queue<u32>,
-    pairs: &mut Queue<Pair>,
+    waiting: &mut Waiting,
 ) -> bool
-    ensures looks { Looks limits.ends limits.shared (S.Sheet.meaning sheet.old) pair.a pair.b result (S.Sheet.meaning sheet.new) }
-    ensures lasts { S.Strike.lasting sheet.new ≡ S.Strike.lasting sheet.old }
-    ensures idle { result ≡ false → (sheet.new ≡ sheet.old) × (marks.new ≡ marks.old) × (pairs.new ≡ pairs.old) }
-    ensures places { (length (held marks.new) ≡ length (held marks.old)) × (length (held pairs.new) ≡ length (held pairs.old)) }
+    ensures { Steps S.Strike (Looks limits pair.a pair.b) sheet.old waiting.old result sheet.new waiting.new }
 {
     if !sheet.agree(pair.a, pair.b) || !is_offending(sheet, limits, pair.a, pair.b) {
         return false;
     }
     sheet.strike(pair.a, pair.b);
-    note_mark(sheet, limits, pair.a, marks);
-    note_mark(sheet, limits, pair.b, marks);
-    note_pairs(sheet, limits, pair.a, pair.b, pairs);
+    note_mark(sheet, limits, pair.a, waiting);
+    note_mark(sheet, limits, pair.b, waiting);
+    note_pairs(sheet, limits, pair, waiting);
     true
 }
 
@@ -89,21 +80,14 @@ pub(crate) fn look_among<S: Strike>(
     limits: Limits,
     i: u32,
     others: MarkSet,
-    marks: &mut Queue<u32>,
-    pairs: &mut Queue<Pair>,
+    waiting: &mut Waiting,
 ) -> bool
-    ensures looks { LooksAmong limits.ends limits.shared (S.Sheet.meaning sheet.old) i (members others) result (S.Sheet.meaning sheet.new) }
-    ensures lasts { S.Strike.lasting sheet.new ≡ S.Strike.lasting sheet.old }
-    ensures idle { result ≡ false → (sheet.new ≡ sheet.old) × (marks.new ≡ marks.old) × (pairs.new ≡ pairs.old) }
-    ensures places { (length (held marks.new) ≡ length (held marks.old)) × (length (held pairs.new) ≡ length (held pairs.old)) }
+    ensures { Steps S.Strike (LooksAmong limits i (members others)) sheet.old waiting.old result sheet.new waiting.new }
 {
-    let mut rest = others;
+    // not by `any`, which would end at the first strike
     let mut struck = false;
-    while let Some(j) = rest.lowest() {
-        rest = rest.without(j);
-        if look_at_pair(sheet, limits, Pair { a: i, b: j }, marks, pairs) {
-            struck = true;
-        }
+    for j in others.rising() {
+        struck |= look_at_pair(sheet, limits, Pair { a: i, b: j }, waiting);
     }
     struck
 }

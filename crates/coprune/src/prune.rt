@@ -1,20 +1,21 @@
 // Co-pruning a sheet.
 ghost use Rattle.std.specs.Prelude.{◌≡◌, true, false, length, is_ok};
 ghost use Rattle.marks.specs.Members.{members};
-ghost use Rattle.pruning.specs.Pruned.{Largest};
 ghost use Rattle.coprune.specs.Answers.{pair_places, CoPrunes, MayHoldAnything};
+ghost use Rattle.coprune.specs.Coprune.{Strikes, Ends};
 
 use crate::limits::Limits;
 use crate::look::Pair;
 use crate::refusal::PruneRefusal;
 use crate::rows::{count_agreements, marks_with};
 use crate::sweep::{drain, sweep};
+use crate::waiting::Waiting;
 use marks::set::MarkSet;
-use queue::ring::Queue;
 use sheet::kinds::{Sheet, Strike};
 
 // Strikes the agreements that no k-plex of more than floor marks can use, and puts the marks that are left into a set.
-// What waits to be looked at again waits in the spaces, which may hold anything afterwards.
+// What waits to be looked at again waits in the spaces, which may hold anything afterwards. The set and both spaces are lent,
+// as the rules say: a struct of them by value could not say what they hold afterwards.
 pub fn co_prune<S: Strike>(
     sheet: &mut S,
     k: u32,
@@ -43,6 +44,7 @@ pub fn co_prune<S: Strike>(
     let limits = Limits::for_floor(k, floor);
     strike_all(sheet, limits, mark_space, pair_space);
     *left = marks_with(sheet, limits.ends);
+    // an accepted call that has no other answer answers 0, as the rules say
     Ok(0)
 }
 
@@ -60,13 +62,11 @@ fn strike_all<S: Strike>(
     mark_space: &mut [u32],
     pair_space: &mut [Pair],
 )
-    ensures marks { (S.Sheet.meaning sheet.new).marks ≡ (S.Sheet.meaning sheet.old).marks }
-    ensures largest { Largest (S.Sheet.meaning sheet.old).marks limits.ends limits.shared (S.Sheet.meaning sheet.old).agrees (S.Sheet.meaning sheet.new).agrees }
-    ensures lasts { S.Strike.lasting sheet.new ≡ S.Strike.lasting sheet.old }
+    ensures { Strikes S.Strike (Ends limits) sheet.old sheet.new }
 {
-    let mut marks = Queue::over(mark_space);
-    let mut pairs = Queue::over(pair_space);
-    while sweep(sheet, limits, &mut marks, &mut pairs) {
-        drain(sheet, limits, &mut marks, &mut pairs);
+    let mut waiting = Waiting::over(mark_space, pair_space);
+    // each sweep says whether there is to be another
+    while sweep(sheet, limits, &mut waiting) {
+        drain(sheet, limits, &mut waiting);
     }
 }

@@ -5,24 +5,19 @@ ghost use Rattle.coprune.specs.Answers.{number};
 #[derive(Clone, Copy)]
 pub enum PruneRefusal {
     // k is not 1 to 16
-    KOutOfRange,
+    KOutOfRange = 41,
     // fewer places for marks than the sheet has marks
-    TooFewMarkPlaces,
+    TooFewMarkPlaces = 42,
     // fewer places for pairs than the sheet has agreements
-    TooFewPairPlaces,
+    TooFewPairPlaces = 43,
     // the floor is above 128
-    FloorTooHigh,
+    FloorTooHigh = 44,
 }
 
 impl PruneRefusal {
     pub fn number(self) -> u32
         ensures { result ≡ number self }
     {
-        match self {
-            PruneRefusal::KOutOfRange => 41,
-            PruneRefusal::TooFewMarkPlaces => 42,
-            PruneRefusal::TooFewPairPlaces => 43,
-            PruneRefusal::FloorTooHigh => 44,
-        }
+        self as u32
     }
 }

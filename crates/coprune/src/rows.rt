@@ -20,13 +20,7 @@ pub(crate) fn is_offending<S: Sheet>(sheet: &S, limits: Limits, i: u32, j: u32) 
 pub(crate) fn marks_with<S: Sheet>(sheet: &S, ends: u32) -> MarkSet
     ensures { members result ≡ left_marks (S.Sheet.meaning sheet.now).marks ends (S.Sheet.meaning sheet.now).agrees }
 {
-    let mut left = MarkSet::empty();
-    for i in 0..sheet.marks() {
-        if neighbours(sheet, i).count() >= ends {
-            left = left.with(i);
-        }
-    }
-    left
+    MarkSet::below(sheet.marks()).filter(|i| neighbours(sheet, i).count() >= ends)
 }
 
 // How many agreements there are, each counted at its lower mark.

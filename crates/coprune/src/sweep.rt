@@ -1,70 +1,48 @@
 // Going over all agreements, and over those that wait.
-ghost use Rattle.std.specs.Prelude.{◌≡◌, ◌<◌, true, false, []};
-ghost use Rattle.queue.specs.Waits.{waiting};
-ghost use Rattle.coprune.specs.Coprune.{Wears, Sweeps, work};
+ghost use Rattle.coprune.specs.Coprune.{Strikes, Steps, Wears, Worn, Sweeps};
+ghost use Rattle.coprune.specs.Waiting.{NoneWaits};
 
 use crate::limits::Limits;
-use crate::look::{Pair, look_among, look_at_pair};
+use crate::look::{look_among, look_at_pair};
+use crate::waiting::{Next, Waiting};
 use marks::set::MarkSet;
-use queue::ring::Queue;
 use sheet::kinds::{Sheet, Strike, neighbours};
 
 // Looks at every agreement once, at its lower mark, and says whether one was struck.
-pub(crate) fn sweep<S: Strike>(
-    sheet: &mut S,
-    limits: Limits,
-    marks: &mut Queue<u32>,
-    pairs: &mut Queue<Pair>,
-) -> bool
-    ensures sweeps { Sweeps limits.ends limits.shared (S.Sheet.meaning sheet.old) result (S.Sheet.meaning sheet.new) }
-    ensures lasts { S.Strike.lasting sheet.new ≡ S.Strike.lasting sheet.old }
+pub(crate) fn sweep<S: Strike>(sheet: &mut S, limits: Limits, waiting: &mut Waiting) -> bool
+    ensures { Strikes S.Strike (Sweeps limits result) sheet.old sheet.new }
 {
     let mut seen = MarkSet::empty();
+    // not by `any`, which would end at the first strike
     let mut struck = false;
     for i in 0..sheet.marks() {
         seen = seen.with(i);
         let above = neighbours(sheet, i).minus(seen);
-        if look_among(sheet, limits, i, above, marks, pairs) {
-            struck = true;
-        }
+        struck |= look_among(sheet, limits, i, above, waiting);
     }
     struck
 }
 
-// Looks at what has waited longest, a mark before a pair; says whether anything waited.
-fn look_at_next<S: Strike>(
-    sheet: &mut S,
-    limits: Limits,
-    marks: &mut Queue<u32>,
-    pairs: &mut Queue<Pair>,
-) -> bool
-    ensures wears { Wears limits.ends limits.shared (S.Sheet.meaning sheet.old) (S.Sheet.meaning sheet.new) }
-    ensures lasts { S.Strike.lasting sheet.new ≡ S.Strike.lasting sheet.old }
-    ensures over { result ≡ false → (waiting marks.new ≡ []) × (waiting pairs.new ≡ []) }
-    ensures falls { result ≡ true → work (S.Sheet.meaning sheet.new) marks.new pairs.new < work (S.Sheet.meaning sheet.old) marks.old pairs.old }
+// Looks at what has waited longest, which waits no more.
+fn look_at<S: Strike>(sheet: &mut S, limits: Limits, next: Next, waiting: &mut Waiting) -> bool
+    ensures { Steps S.Strike (Worn limits) sheet.old waiting.old result sheet.new waiting.new }
 {
-    if let Some(i) = marks.pop() {
-        let others = neighbours(sheet, i);
-        look_among(sheet, limits, i, others, marks, pairs);
-        return true;
+    match next {
+        Next::Mark(i) => {
+            let others = neighbours(sheet, i);
+            look_among(sheet, limits, i, others, waiting)
+        }
+        Next::Pair(pair) => look_at_pair(sheet, limits, pair, waiting),
     }
-    if let Some(pair) = pairs.pop() {
-        look_at_pair(sheet, limits, pair, marks, pairs);
-        return true;
-    }
-    false
 }
 
 // Looks at all that waits, and at what comes to wait meanwhile.
-pub(crate) fn drain<S: Strike>(
-    sheet: &mut S,
-    limits: Limits,
-    marks: &mut Queue<u32>,
-    pairs: &mut Queue<Pair>,
-)
-    ensures wears { Wears limits.ends limits.shared (S.Sheet.meaning sheet.old) (S.Sheet.meaning sheet.new) }
-    ensures over { (waiting marks.new ≡ []) × (waiting pairs.new ≡ []) }
-    ensures lasts { S.Strike.lasting sheet.new ≡ S.Strike.lasting sheet.old }
+pub(crate) fn drain<S: Strike>(sheet: &mut S, limits: Limits, waiting: &mut Waiting)
+    ensures wears { Strikes S.Strike (Wears limits) sheet.old sheet.new }
+    ensures over { NoneWaits waiting.new }
 {
-    while look_at_next(sheet, limits, marks, pairs) {}
+    // no `for`: more comes to wait meanwhile
+    while let Some(next) = waiting.next() {
+        look_at(sheet, limits, next, waiting);
+    }
 }

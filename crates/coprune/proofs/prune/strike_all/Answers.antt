@@ -1,45 +1,23 @@
-use Rattle.std.proofs.Common.{refl, ◌∙◌, arith}
-use Rattle.coprune.proofs.Wearing.{wears_self, wears_on, wears_fewer}
+use Rattle.std.proofs.Common.{arith}
+use Rattle.coprune.specs.Coprune.{Wears, Ends, Sweeps}
+use Rattle.coprune.proofs.Wearing.{wears_on, wears_fewer}
+use Rattle.coprune.proofs.Stepping.{kind_of, strikes_on}
 use Rattle.coprune.proofs.Ending.{ends_largest}
 use Rattle.coprune.proofs.prune.strike_all.Goals as goal
 
-pub loop-marks-init : goal.loop-marks-init
-loop-marks-init g c = (wears_self c.args.limits.ends c.args.limits.shared (g.S.Sheet.meaning c.args.sheet.now), refl)
+pub loop-waiting-smaller : goal.loop-waiting-smaller
+loop-waiting-smaller g c =
+    omega (arith, c.sweep.ensures.means.worn.fewer c.loop-waiting-test.true, wears_fewer c.args.limits _ _ c.drain.ensures.wears.means)
 
-pub loop-marks-smaller : goal.loop-marks-smaller
-loop-marks-smaller g c =
-    let mean = g.S.Sheet.meaning in
-    omega (
-      arith,
-      c.sweep.ensures.sweeps.fewer c.loop-marks-test.true,
-      wears_fewer c.args.limits.ends c.args.limits.shared (mean c.sweep.new.sheet) (mean c.drain.new.sheet) c.drain.ensures.wears,
-    )
-
-pub loop-marks-preserved : goal.loop-marks-preserved
-loop-marks-preserved g c =
-    let mean = g.S.Sheet.meaning in
-    let a = c.args.limits.ends in
-    let b = c.args.limits.shared in
-    let m = mean c.args.sheet.now in
-    let m₁ = mean c.loop-marks.sheet in
-    let m₂ = mean c.sweep.new.sheet in
-    let m₃ = mean c.drain.new.sheet in (
-      wears_on a b m m₂ m₃ (wears_on a b m m₁ m₂ c.loop-marks.invariant.0 c.sweep.ensures.sweeps.wears) c.drain.ensures.wears,
-      c.drain.ensures.lasts ∙ c.sweep.ensures.lasts ∙ c.loop-marks.invariant.1,
-    )
+pub loop-waiting-preserved : goal.loop-waiting-preserved
+loop-waiting-preserved g c =
+    let kind = kind_of g.S.Sheet g.S.Strike in
+    let W = Wears c.args.limits in
+    strikes_on kind W W W _ _ _ (strikes_on kind W (Sweeps c.args.limits c.sweep.result) W _ _ _ c.loop-waiting.invariant c.sweep.ensures (λ p q. wears_on _ _ _ _ p q.worn.wears))
+    c.drain.ensures.wears (λ p q. wears_on _ _ _ _ p q)
 
 pub returns : goal.returns
 returns g c =
-    let mean = g.S.Sheet.meaning in
-    let a = c.args.limits.ends in
-    let b = c.args.limits.shared in
-    let m = mean c.args.sheet.now in
-    let m₁ = mean c.loop-marks.sheet in
-    let m₂ = mean c.sweep.new.sheet in
-    let swept = c.sweep.ensures.sweeps in
-    let wears = wears_on a b m m₁ m₂ c.loop-marks.invariant.0 swept.wears in
-    record {
-      marks = wears.marks;
-      largest = ends_largest a b m m₁ m₂ wears (swept.fine c.loop-marks-test.false);
-      lasts = c.sweep.ensures.lasts ∙ c.loop-marks.invariant.1;
-    }
+    let l = c.args.limits in
+    strikes_on (kind_of g.S.Sheet g.S.Strike) (Wears l) (Sweeps l c.sweep.result) (Ends l) _ _ _ c.loop-waiting.invariant c.sweep.ensures
+    (λ p q. ends_largest l _ _ _ (wears_on l _ _ _ p q.worn.wears) (q.fine c.loop-waiting-test.false))

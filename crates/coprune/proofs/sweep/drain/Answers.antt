@@ -1,26 +1,13 @@
-use Rattle.std.proofs.Common.{refl, ◌∙◌}
-use Rattle.coprune.proofs.Wearing.{wears_self, wears_on}
+use Rattle.coprune.specs.Coprune.{Wears, Worn}
+use Rattle.coprune.proofs.Wearing.{wears_on}
+use Rattle.coprune.proofs.Stepping.{kind_of, strikes_on}
+use Rattle.coprune.proofs.Working.{work_less}
 use Rattle.coprune.proofs.sweep.drain.Goals as goal
 
-pub loop-limits-init : goal.loop-limits-init
-loop-limits-init g c = (wears_self c.args.limits.ends c.args.limits.shared (g.S.Sheet.meaning c.args.sheet.now), refl)
+pub loop-next-smaller : goal.loop-next-smaller
+loop-next-smaller g c = work_less (kind_of g.S.Sheet g.S.Strike) c.args.limits _ _ _ _ _ c.in-Some.next c.look_at.result c.in-Some.ensures c.look_at.ensures
 
-pub loop-limits-preserved : goal.loop-limits-preserved
-loop-limits-preserved g c =
-    let mean = g.S.Sheet.meaning in
-    let next = c.look_at_next.ensures in (
-      wears_on c.args.limits.ends c.args.limits.shared (mean c.args.sheet.now) (mean c.loop-limits.sheet) (mean c.look_at_next.new.sheet)
-          c.loop-limits.invariant.0 next.wears,
-      next.lasts ∙ c.loop-limits.invariant.1,
-    )
-
-pub returns : goal.returns
-returns g c =
-    let mean = g.S.Sheet.meaning in
-    let next = c.look_at_next.ensures in
-    record {
-      wears = wears_on c.args.limits.ends c.args.limits.shared (mean c.args.sheet.now) (mean c.loop-limits.sheet) (mean c.look_at_next.new.sheet)
-          c.loop-limits.invariant.0 next.wears;
-      over = next.over c.loop-limits-test.false;
-      lasts = next.lasts ∙ c.loop-limits.invariant.1;
-    }
+pub loop-next-preserved : goal.loop-next-preserved
+loop-next-preserved g c =
+    strikes_on (kind_of g.S.Sheet g.S.Strike) (Wears c.args.limits) (Worn c.args.limits c.look_at.result) (Wears c.args.limits) _ _ _ c.loop-next.invariant
+    c.look_at.ensures.strikes (λ p q. wears_on _ _ _ _ p q.wears)
