@@ -39,6 +39,12 @@ module _ (a : Agreement) (s : Set) (u v : ℕ) where
         | inr f ↦ omega (arith, one_more_missed l f, ap (λ b. one_if (not b)) f)
       ]
 
+  pub one_more_at_most : v < 128 → misses 128 a (s ∪ only v) u ≤ 1 + misses 128 a s u
+  one_more_at_most l = omega (arith, missed_with l, one_at_most (not (a u v || s v)))
+    where
+      one_at_most : (b : Bool) → one_if b ≤ 1
+      one_at_most b = grind arith
+
 -- a mark of a k-plex misses at most k of its marks
 plex_misses : (k : ℕ) (a : Agreement) (s : Set) (u : ℕ) → s u ≡ true → Kplex 128 k a s → misses 128 a s u ≤ k
 plex_misses k a s u t q = elim (cases_lt k (misses 128 a s u)) [ inl l ↦ absurd (no_plex k a s u t l q) | inr l ↦ l ]
@@ -50,10 +56,7 @@ module _ (k : ℕ) (a : Agreement) (s : Set) (v : ℕ) (l : v < 128) where
     where
       joining : (u : ℕ) → u ≡ v → s u ≡ false → misses 128 a (s ∪ only v) u ≤ k
       joining u e f =
-          omega (arith, m (ap s (sym e) ∙ f), missed_with a s u v l, ap (misses 128 a s) e, one_at_most (not (a u v || s v)))
-        where
-          one_at_most : (b : Bool) → one_if b ≤ 1
-          one_at_most b = grind arith
+          omega (arith, m (ap s (sym e) ∙ f), one_more_at_most a s u v l, ap (misses 128 a s) e)
 
       at : (u : ℕ) → (s u || eqb u v) ≡ true → (u < 128) × (misses 128 a (s ∪ only v) u ≤ k)
       at u t =

@@ -1,12 +1,12 @@
 -- A pass over the chosen marks: the candidates that the marks passed so far bear.
-use Rattle.std.proofs.Common.{◌≡◌, ℕ, ◌<◌, ◌≤◌, Bool, true, not, ◌||◌, sym, ap, ◌∙◌, inl, inr, arith}
+use Rattle.std.proofs.Common.{◌≡◌, ℕ, ◌<◌, ◌≤◌, true, not, ◌||◌, sym, ap, ◌∙◌, inl, inr, arith}
 use Rattle.std.proofs.lemmas.Bool.{cases_Bool, both_ways, and_parts, and_from}
 use Rattle.plex.specs.Sets.{Set, Agreement, one_if, none, only, ◌∩◌, ◌∪◌, ◌∖◌, ◌⊆◌, Within}
 use Rattle.plex.proofs.Count.{card_mono}
 use Rattle.ceiling.specs.Formulas.{misses}
-use Rattle.rule.proofs.Passing.{Passed, passed_none, passed_more, passed_all}
+use Rattle.rule.proofs.Passing.{Passed, passed_nothing, passed_more, passed_all}
 use Rattle.branch.specs.Sifting.{Sifted, Borne}
-use Rattle.branch.proofs.Adding.{missed_with}
+use Rattle.branch.proofs.Adding.{missed_with, one_more_at_most}
 
 pub record Bearing (k : ℕ) (a : Agreement) (s c rest kept : Set) : Type 0 where
   pub part : kept ⊆ c
@@ -14,8 +14,8 @@ pub record Bearing (k : ℕ) (a : Agreement) (s c rest kept : Set) : Type 0 wher
   pub all : (v : ℕ) → c v ≡ true → Borne k a s v → kept v ≡ true
 
 module _ (k : ℕ) (a : Agreement) (s c : Set) where
-  pub bearing_none : Bearing k a s c s c
-  bearing_none = record { part = λ i t. t; borne = passed_none (λ u. (v : ℕ) → c v ≡ true → misses 128 a (s ∪ only v) u ≤ k) s; all = λ v t _. t }
+  pub bearing_none : (rest : Set) → rest ≡ s → Bearing k a s c rest c
+  bearing_none rest e = record { part = λ i t. t; borne = passed_nothing (λ u. (v : ℕ) → c v ≡ true → misses 128 a (s ∪ only v) u ≤ k) s rest e; all = λ v t _. t }
 
   pub bearing_all : (rest kept : Set) → rest ≡ none → Bearing k a s c rest kept → Sifted (Borne k a s) c kept
   bearing_all rest kept e h = record {
@@ -38,12 +38,9 @@ module _ (k : ℕ) (a : Agreement) (s c : Set) where
     bearing_spare l = record {
       part = h.part;
       borne = passed_more (λ x. (v : ℕ) → kept v ≡ true → misses 128 a (s ∪ only v) x ≤ k) s rest rest' u e
-          (λ v y. omega (arith, missed_with a s u v (within v (h.part v y)), one_at_most (not (a u v || s v)))) h.borne;
+          (λ v y. omega (arith, one_more_at_most a s u v (within v (h.part v y)))) h.borne;
       all = h.all;
     }
-      where
-        one_at_most : (b : Bool) → one_if b ≤ 1
-        one_at_most b = grind arith
 
     -- u may miss none
     pub bearing_full : (kept' : Set) → misses 128 a s u ≡ k → kept' ≡ kept ∩ (a u ∪ s) → Bearing k a s c rest' kept'

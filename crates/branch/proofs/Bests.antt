@@ -4,7 +4,7 @@ use Rattle.std.proofs.lemmas.Bool.Decides.{nat_tests}
 use Rattle.std.proofs.lemmas.Bool.{cases_lt, cases_eq, both_ways, and_parts}
 use Rattle.plex.specs.Sets.{Set, none, only, ◌∖◌, ◌⊆◌}
 use Rattle.plex.specs.Least.{Least}
-use Rattle.rule.proofs.Passing.{Passed, left_part, passed_none, passed_more, passed_all}
+use Rattle.rule.proofs.Passing.{Passed, all_left, left_part, passed_nothing, passed_more, passed_all}
 
 pub record BestSoFar (p rest : Set) (g : ℕ → ℕ) (u : ℕ) : Type 0 where
   pub mark : u < 128
@@ -25,14 +25,15 @@ after_lowest rest rest' v low e j t =
     ]
 
 module _ (p : Set) (g : ℕ → ℕ) where
-  pub best_first : (rest : Set) (u : ℕ) → u < 128 → p u ≡ true → ((i : ℕ) → i < u → p i ≡ false) → rest ≡ p ∖ only u → BestSoFar p rest g u
-  best_first rest u l t low e = record {
+  -- the lowest mark of all is the first
+  pub best_first : (all rest : Set) (u : ℕ) → all ≡ p → u < 128 → all u ≡ true → ((i : ℕ) → i < u → all i ≡ false) → rest ≡ all ∖ only u → BestSoFar p rest g u
+  best_first all rest u q l t low e = record {
     mark = l;
-    member = t;
-    most = passed_more (λ i. g i ≤ g u) p p rest u e (omega arith) (passed_none (λ i. g i ≤ g u) p);
-    lowest = passed_more (λ i. i < u → g i < g u) p p rest u e (λ m. absurd (omega arith)) (passed_none (λ i. i < u → g i < g u) p);
-    left = left_part p p rest u e (λ i x. x);
-    after = after_lowest p rest u low e;
+    member = all_left p all q u t;
+    most = passed_more (λ i. g i ≤ g u) p all rest u e (omega arith) (passed_nothing (λ i. g i ≤ g u) p all q);
+    lowest = passed_more (λ i. i < u → g i < g u) p all rest u e (λ m. absurd (omega arith)) (passed_nothing (λ i. i < u → g i < g u) p all q);
+    left = left_part p all rest u e (all_left p all q);
+    after = after_lowest all rest u low e;
   }
 
   module _ (rest rest' : Set) (u v : ℕ) (low : (i : ℕ) → i < v → rest i ≡ false) (here : rest v ≡ true) (e : rest' ≡ rest ∖ only v) (h : BestSoFar p rest g u) where

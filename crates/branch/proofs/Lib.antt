@@ -5,3 +5,5 @@ pub mod Sweeps
 pub mod Bests
 pub mod Trims
 pub mod Picks
+pub mod Opening
+pub mod Listing

@@ -1,40 +1,36 @@
 -- The mark to split by is the best of the tight ones, or else of all candidates.
-use Rattle.std.proofs.Common.{◌≡◌, ℕ, ◌+◌, Bool, true, ◌&&◌, eqb, Some, None, Option, sym, ap, subst, ap₂, arith}
-use mathlib.Core.Path.{fun_ext}
-use Rattle.std.proofs.lemmas.Bool.{eq-eqb, eqb-true}
-use Rattle.plex.specs.Sets.{Set, Agreement, ◌∪◌}
+use Rattle.std.proofs.Common.{◌≡◌, ℕ, ◌-◌, ◌<◌, Some, None, Option, sym, refl, ap, ◌∙◌, inl, inr, arith}
+use Rattle.std.proofs.lemmas.Bool.{cases_Bool}
+use Rattle.plex.specs.Sets.{Set, Agreement, card, ◌∪◌}
 use Rattle.plex.specs.Least.{Least, least}
+use Rattle.plex.proofs.Count.{card_less, card_none}
 use Rattle.plex.proofs.Least.{least_is, least_unique}
+use Rattle.searching.specs.First.{agreements_inside}
 use Rattle.searching.specs.Steps.{tight}
 use Rattle.searching.specs.Computed.{pick_from, first_of, pick}
-use Rattle.ceiling.specs.Formulas.{misses}
-use Rattle.branch.specs.Sifting.{Sifted}
-use Rattle.branch.specs.Splitting.{short_of_all}
 
-module _ (k : ℕ) (a : Agreement) (s c : Set) where
-  pub tight_sifted : (d : Set) → Sifted (λ v. misses 128 a s v + 1 ≡ k) c d → d ≡ tight 128 k a s c
-  tight_sifted d h =
-      fun_ext (λ v.
-      both (d v) (c v) (eqb (misses 128 a s v + 1) k) (h.part v) (λ t. eq-eqb (misses 128 a s v + 1) k (h.passes v t))
-      (λ t e. h.all v t (eqb-true (misses 128 a s v + 1) k e)))
-    where
-      both : (x y z : Bool) → (x ≡ true → y ≡ true) → (x ≡ true → z ≡ true) → (y ≡ true → z ≡ true → x ≡ true) → x ≡ (y && z)
-      both x y z p q r = grind arith
-
+module _ (a : Agreement) (s c : Set) where
   abbrev short : ℕ → ℕ
-  short = short_of_all a (s ∪ c)
+  short v = 128 - agreements_inside 128 a (s ∪ c) v
 
   -- there is one best mark of p
-  best_is : (p : Set) (o : Option ℕ) → Least 128 p short o → least 128 p short ≡ o
-  best_is p o h = least_unique 128 p short (least 128 p short) o (least_is 128 p short) h
+  pub picked_from : (p : Set) (o : Option ℕ) → Least 128 p short o → o ≡ pick_from 128 a s c p
+  picked_from p o h = sym (least_unique 128 p short (least 128 p short) o (least_is 128 p short) h)
 
-  module _ (all narrow : Set) (e : all ≡ s ∪ c) (f : narrow ≡ tight 128 k a s c) where
-    among_tight : (o : Option ℕ) → Least 128 narrow (short_of_all a all) o → pick_from 128 a s c (tight 128 k a s c) ≡ o
-    among_tight o h =
-        best_is (tight 128 k a s c) o (subst (λ p. Least 128 p short o) f (subst (λ t. Least 128 narrow (short_of_all a t) o) e h))
+  nothing_picked : (p : Set) → card 128 p ≡ 0 → None ≡ pick_from 128 a s c p
+  nothing_picked p e = picked_from p None (λ i l. elim (cases_Bool (p i)) [ inl t ↦ absurd (omega (arith, card_less 128 p i l t)) | inr f ↦ f ])
 
-    pub picked_tight : (u : ℕ) → Least 128 narrow (short_of_all a all) (Some u) → Some u ≡ pick 128 k a s c
-    picked_tight u h = sym (ap (λ o. first_of o (pick_from 128 a s c c)) (among_tight (Some u) h))
+  first_picked : (p : Set) (other : Option ℕ) → 0 < card 128 p → pick_from 128 a s c p ≡ first_of (pick_from 128 a s c p) other
+  first_picked p other some = at (least 128 p short) (least_is 128 p short)
+    where
+      at : (o : Option ℕ) → Least 128 p short o → o ≡ first_of o other
+      at None h = absurd (omega (arith, card_none 128 p h))
+      at (Some u) h = refl
 
-    pub picked_any : (o : Option ℕ) → Least 128 narrow (short_of_all a all) None → Least 128 c (short_of_all a all) o → o ≡ pick 128 k a s c
-    picked_any o h g = sym (ap₂ first_of (among_tight None h) (best_is c o (subst (λ t. Least 128 c (short_of_all a t) o) e g)))
+  module _ (k : ℕ) (narrow : Set) (e : narrow ≡ tight 128 k a s c) where
+    pub picked_tight : 0 < card 128 narrow → pick_from 128 a s c narrow ≡ pick 128 k a s c
+    picked_tight some =
+        first_picked narrow (pick_from 128 a s c c) some ∙ ap (λ p. first_of (pick_from 128 a s c p) (pick_from 128 a s c c)) e
+
+    pub picked_any : card 128 narrow ≡ 0 → pick_from 128 a s c c ≡ pick 128 k a s c
+    picked_any nothing = ap (λ o. first_of o (pick_from 128 a s c c)) (nothing_picked narrow nothing ∙ ap (pick_from 128 a s c) e)

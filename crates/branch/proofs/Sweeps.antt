@@ -4,7 +4,7 @@ use Rattle.std.proofs.lemmas.Bool.Decides.{nat_tests}
 use Rattle.std.proofs.lemmas.Bool.{cases_eq, and_parts}
 use Rattle.plex.specs.Sets.{Set, Agreement, card, none, only, ◌∩◌, ◌∪◌, ◌∖◌, ◌⊆◌}
 use Rattle.plex.proofs.Count.{card_mono, card_less}
-use Rattle.rule.proofs.Passing.{Passed, left_part, passed_none, passed_more, passed_all}
+use Rattle.rule.proofs.Passing.{Passed, all_left, left_part, passed_nothing, passed_more, passed_all}
 use Rattle.branch.specs.Agreeing.{Agreeing, LargestAgreeing, Swept}
 
 pub record Sweeping (few : ℕ) (a : Agreement) (s c rest kept : Set) : Type 0 where
@@ -15,12 +15,12 @@ pub record Sweeping (few : ℕ) (a : Agreement) (s c rest kept : Set) : Type 0 w
   pub still : card 128 kept ≡ card 128 c → Passed (λ v. few < card 128 ((s ∪ kept) ∩ a v)) c rest
 
 module _ (few : ℕ) (a : Agreement) (s c : Set) where
-  pub sweeping_none : Sweeping few a s c c c
-  sweeping_none = record {
+  pub sweeping_none : (rest : Set) → rest ≡ c → Sweeping few a s c rest c
+  sweeping_none rest q = record {
     part = λ i t. t;
-    left = λ i t. t;
+    left = all_left c rest q;
     most = λ e _ p. p;
-    still = λ _. passed_none (λ v. few < card 128 ((s ∪ c) ∩ a v)) c;
+    still = λ _. passed_nothing (λ v. few < card 128 ((s ∪ c) ∩ a v)) c rest q;
   }
 
   pub sweeping_all : (rest kept : Set) → rest ≡ none → Sweeping few a s c rest kept → Swept few a s c kept

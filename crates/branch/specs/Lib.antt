@@ -1,3 +1,3 @@
 pub mod Sifting
 pub mod Agreeing
-pub mod Splitting
+pub mod Opened

@@ -5,10 +5,7 @@ ghost use Rattle.searching.specs.Trimming.{Trimmed};
 ghost use Rattle.searching.specs.Computed.{pick};
 ghost use Rattle.tables.specs.Meanings.{bit_meaning};
 
-use crate::agreeing::agreeing_enough;
-use crate::joining::joinable;
-use crate::splitting::{most_agreeing, tight_marks};
-use marks::set::MarkSet;
+use crate::opened::Opened;
 use tables::bits::BitTable;
 
 // An open branch: the k-plexes that have all chosen marks, and no others but candidates; each set as its four words.
@@ -24,11 +21,10 @@ impl Branch {
         ensures chosen { self.new.chosen ≡ self.old.chosen }
         ensures trimmed { Trimmed 128 k (bit_meaning table.now).agrees held (holds self.old.chosen) (holds self.old.candidates) (holds self.new.candidates) }
     {
-        let chosen = MarkSet::from_words(self.chosen);
-        let candidates = MarkSet::from_words(self.candidates);
-        let mut fitting = joinable(k, table, chosen, candidates);
+        let opened = Opened::of(self, k, table);
+        let mut fitting = opened.joinable();
         if k <= held {
-            fitting = agreeing_enough(table, chosen, fitting, held - k);
+            fitting = opened.narrowed(fitting).agreeing_enough(held - k);
         }
         self.candidates = fitting.words();
     }
@@ -37,13 +33,13 @@ impl Branch {
     pub fn split_mark(&self, k: u32, table: &BitTable) -> Option<u32>
         ensures { result ≡ pick 128 k (bit_meaning table.now).agrees (holds self.now.chosen) (holds self.now.candidates) }
     {
-        let chosen = MarkSet::from_words(self.chosen);
-        let candidates = MarkSet::from_words(self.candidates);
-        let all = chosen.or(candidates);
-        let tight = tight_marks(k, table, chosen, candidates);
-        match most_agreeing(table, all, tight) {
-            Some(mark) => Some(mark),
-            None => most_agreeing(table, all, candidates),
-        }
+        let opened = Opened::of(self, k, table);
+        let tight = opened.tight_marks();
+        let marks = if tight.is_empty() {
+            opened.candidates
+        } else {
+            tight
+        };
+        opened.most_agreeing(marks)
     }
 }

@@ -4,5 +4,6 @@
 mod agreeing;
 pub mod branches;
 mod joining;
+mod opened;
 pub mod plexes;
 mod splitting;

@@ -12,12 +12,6 @@ use tables::bits::BitTable;
 pub fn is_kplex(table: &BitTable, k: u32, set: MarkSet) -> bool
     ensures { result ≡ is_kplex 128 k (bit_meaning table.now).agrees (members set) }
 {
-    let mut rest = set;
-    while let Some(u) = rest.lowest() {
-        rest = rest.without(u);
-        if set.minus(neighbours(table, u)).count() > k {
-            return false;
-        }
-    }
-    true
+    set.rising()
+        .all(|u| set.minus(neighbours(table, u)).count() <= k)
 }

@@ -7,7 +7,7 @@ use Rattle.plex.proofs.Count.{card_ext, card_mono, card_or, card_less, card_some
 use Rattle.ceiling.specs.Formulas.{pair_number}
 use Rattle.ceiling.specs.Laws.{SmallestOfTwo}
 use Rattle.rule.specs.Passes.{Lowered}
-use Rattle.rule.proofs.Passing.{left_part}
+use Rattle.rule.proofs.Passing.{all_left, left_part}
 
 -- which of two marks is named first makes no difference
 pub pair_both_ways : (n k : ℕ) (a : Agreement) (s c : Set) (u v : ℕ) → pair_number n k a s c u v ≡ pair_number n k a s c v u
@@ -38,11 +38,14 @@ pub record LowestOfTwo (s rest : Set) (f : ℕ → ℕ → ℕ) (start m : ℕ) 
   pub below : (u v : ℕ) → s u ≡ true → s v ≡ true → (u ≡ v → ⊥) → (rest u ≡ false) ⊎ (rest v ≡ false) → m ≤ f u v
   pub reached : (m ≡ start) ⊎ ((u : ℕ) × (v : ℕ) × (s u ≡ true) × (s v ≡ true) × (u ≡ v → ⊥) × (m ≡ f u v))
 
-pub two_none : (s : Set) (f : ℕ → ℕ → ℕ) (start : ℕ) → LowestOfTwo s s f start start
-two_none s f start = record {
-  below = λ u v t e d o. elim o [ inl h ↦ absurd (both_ways (s u) h t) | inr h ↦ absurd (both_ways (s v) h e) ];
+pub two_none : (s rest : Set) (f : ℕ → ℕ → ℕ) (start : ℕ) → rest ≡ s → LowestOfTwo s rest f start start
+two_none s rest f start p = record {
+  below = λ u v t e d o. elim o [ inl h ↦ absurd (both_ways (rest u) h (left u t)) | inr h ↦ absurd (both_ways (rest v) h (left v e)) ];
   reached = inl refl;
 }
+  where
+    left : s ⊆ rest
+    left = all_left rest s (sym p)
 
 module _ (s rest rest' : Set) (f : ℕ → ℕ → ℕ) (start m u m' : ℕ) (both : (x y : ℕ) → f x y ≡ f y x)
     (part : rest ⊆ s) (here : rest u ≡ true) (e : rest' ≡ rest ∖ only u) (low : Lowered rest' (f u) m m') where

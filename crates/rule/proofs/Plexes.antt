@@ -1,8 +1,15 @@
 -- A set is a k-plex if each of its marks misses at most k of its marks, itself counted.
-use Rattle.std.proofs.Common.{◌≡◌, ℕ, ◌<◌, ◌≤◌, true, arith}
-use Rattle.plex.specs.Sets.{Set, Agreement, Kplex}
+use Rattle.std.proofs.Common.{◌≡◌, ℕ, ◌<◌, ◌≤◌, true, ap, ◌∙◌, arith}
+use Rattle.plex.specs.Sets.{Set, Agreement, card, ◌∩◌, ◌∖◌, Kplex}
 use Rattle.plex.proofs.Count.{card_split}
 use Rattle.ceiling.specs.Formulas.{misses}
+
+-- what is counted where the row of u is taken from s, or laid over it
+pub misses_counted : (a : Agreement) (s : Set) (u : ℕ) {row left : Set} {m : ℕ} → row ≡ a u → left ≡ s ∖ row → m ≡ card 128 left → m ≡ misses 128 a s u
+misses_counted a s u r l e = e ∙ ap (card 128) (l ∙ ap (λ t. s ∖ t) r)
+
+pub agreements_counted : (a : Agreement) (s : Set) (u : ℕ) {row both : Set} {m : ℕ} → row ≡ a u → both ≡ s ∩ row → m ≡ card 128 both → m ≡ card 128 (s ∩ a u)
+agreements_counted a s u r b e = e ∙ ap (card 128) (b ∙ ap (λ t. s ∩ t) r)
 
 -- u is a mark, and misses at most k marks of s
 abbrev pub MissesFew : ℕ → Agreement → Set → ℕ → Type 0

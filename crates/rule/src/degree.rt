@@ -1,11 +1,9 @@
 // The degree rule: a k-plex has at most k marks more than any of its marks agrees with.
-ghost use Rattle.std.specs.Prelude.{◌≤◌};
 ghost use Rattle.ceiling.specs.Formulas.{by_degree};
-ghost use Rattle.marks.specs.Members.{members};
-ghost use Rattle.tables.specs.Meanings.{bit_meaning};
-ghost use Rattle.rule.specs.Passes.{Degrees};
+ghost use Rattle.rule.specs.Questions.{Finds};
 ghost use Rattle.ceiling.proofs.Lawful.{degree_lawful};
 
+use crate::asked::Asked;
 use crate::rules::{CeilingRule, in_range};
 use marks::set::MarkSet;
 use sheet::kinds::neighbours;
@@ -20,33 +18,28 @@ impl CeilingRule for DegreeRule {
     ghost lawful = { λ rule. degree_lawful };
 
     fn ceiling(&self, k: u32, table: &BitTable, chosen: MarkSet, candidates: MarkSet) -> u32 {
-        let others = candidates.minus(chosen);
-        let all_marks = chosen.count() + others.count();
-        if !in_range(k) || chosen.is_empty() {
-            return all_marks;
-        }
-        match smallest_degree(k, table, chosen, others) {
-            Some(smallest) => smallest,
-            None => all_marks,
-        }
+        let asked = Asked::of(k, table, chosen, candidates);
+        asked.smallest_degree().unwrap_or(asked.all_marks())
     }
 }
 
-// The smallest number of a chosen mark, in one pass over their rows; none where they are no k-plex.
-fn smallest_degree(k: u32, table: &BitTable, chosen: MarkSet, others: MarkSet) -> Option<u32>
-    requires { k ≤ 16 }
-    ensures { Degrees k (bit_meaning table.now).agrees (members chosen) (members others) result }
-{
-    let all = chosen.or(others);
-    let mut smallest = u32::MAX;
-    let mut rest = chosen;
-    while let Some(u) = rest.lowest() {
-        rest = rest.without(u);
-        let row = neighbours(table, u);
-        if chosen.minus(row).count() > k {
+impl Asked<'_> {
+    // The smallest number of a chosen mark, in one pass over their rows; none where the rule does not apply.
+    fn smallest_degree(self) -> Option<u32>
+        ensures { Finds by_degree self.entry result }
+    {
+        if !in_range(self.k) || self.chosen.is_empty() {
             return None;
         }
-        smallest = smallest.min(k + all.and(row).count());
+        let all = self.chosen.or(self.others);
+        let mut smallest = u32::MAX;
+        for u in self.chosen.rising() {
+            let row = neighbours(self.table, u);
+            if self.chosen.minus(row).count() > self.k {
+                return None;
+            }
+            smallest = smallest.min(self.k + all.and(row).count());
+        }
+        Some(smallest)
     }
-    Some(smallest)
 }

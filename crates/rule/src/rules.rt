@@ -24,5 +24,5 @@ pub trait CeilingRule: Drop {
 pub(crate) fn in_range(k: u32) -> bool
     ensures { result ≡ in_range k }
 {
-    1 <= k && k <= 16
+    (1..=16).contains(&k)
 }
