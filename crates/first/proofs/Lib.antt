@@ -1,3 +1,4 @@
 pub mod Choosing
+pub mod Picking
 pub mod Writing
 pub mod Peeling

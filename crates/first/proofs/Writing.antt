@@ -18,8 +18,8 @@ written xs v x f s rest rest' l e is h =
     ])
 
 -- no mark was passed
-pub lowered_none : (xs : List ℕ) (s : Set) → OneLess xs (s ∖ s) xs
-lowered_none xs s u = grind arith
+pub lowered_none : (xs : List ℕ) (s rest : Set) → rest ≡ s → OneLess xs (s ∖ rest) xs
+lowered_none xs s rest e u = let same = ap (λ r. r u) e in grind arith
 
 -- a mark that was not passed has its number still
 pub not_yet : (before xs : List ℕ) (s rest : Set) (v : ℕ) → rest v ≡ true → OneLess before (s ∖ rest) xs → degree xs v ≡ degree before v

@@ -14,9 +14,7 @@ pub(crate) fn degrees_in(table: &BitTable, set: MarkSet) -> [u32; 128]
     ensures { HasDegrees (bit_meaning table.now).agrees (members set) result }
 {
     let mut degrees = [0; 128];
-    let mut rest = set;
-    while let Some(u) = rest.lowest() {
-        rest = rest.without(u);
+    for u in set.rising() {
         degrees[u as usize] = set.and(neighbours(table, u)).count();
     }
     degrees
@@ -26,15 +24,7 @@ pub(crate) fn degrees_in(table: &BitTable, set: MarkSet) -> [u32; 128]
 pub(crate) fn least_mark(degrees: &[u32; 128], set: MarkSet) -> Option<u32>
     ensures { Least 128 (members set) (degree degrees.now) result }
 {
-    let mut least = set.lowest()?;
-    let mut rest = set;
-    while let Some(v) = rest.lowest() {
-        rest = rest.without(v);
-        if degrees[v as usize] < degrees[least as usize] {
-            least = v;
-        }
-    }
-    Some(least)
+    set.rising().min_by_key(|v| degrees[*v as usize])
 }
 
 // The degrees of these marks become one less.
@@ -42,9 +32,7 @@ pub(crate) fn lower(degrees: &mut [u32; 128], marks: MarkSet)
     requires { (v : ℕ) → members marks v ≡ true → 0 < degree degrees.old v }
     ensures { OneLess degrees.old (members marks) degrees.new }
 {
-    let mut rest = marks;
-    while let Some(v) = rest.lowest() {
-        rest = rest.without(v);
+    for v in marks.rising() {
         degrees[v as usize] -= 1;
     }
 }

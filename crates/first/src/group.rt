@@ -22,9 +22,10 @@ pub struct FirstGroup {
 pub fn first_group(table: &BitTable, k: u32) -> FirstGroup
     ensures { Peels (bit_meaning table.now).marks k (bit_meaning table.now).agrees (below (bit_meaning table.now).marks) (members result.group) result.top }
 {
-    let mut group = all_marks(table);
+    let mut group = MarkSet::below(table.marks());
     let mut degrees = degrees_in(table, group);
     let mut top = 0u32;
+    // no iterator: which mark comes next hangs on those that left
     while let Some(u) = least_mark(&degrees, group) {
         let most = degrees[u as usize].saturating_add(k).min(group.count());
         top = top.max(most);
@@ -35,15 +36,4 @@ pub fn first_group(table: &BitTable, k: u32) -> FirstGroup
         lower(&mut degrees, group.and(neighbours(table, u)));
     }
     FirstGroup { group, top }
-}
-
-// All marks of a table.
-fn all_marks(table: &BitTable) -> MarkSet
-    ensures { members result ≡ below (bit_meaning table.now).marks }
-{
-    let mut all = MarkSet::empty();
-    for i in 0..table.marks() {
-        all = all.with(i);
-    }
-    all
 }

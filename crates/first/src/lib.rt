@@ -14,16 +14,14 @@ mod tests {
     #[test]
     fn pentagon(rt: HostRuntime) {
         let mut words = [0u32; 5];
-        match Entry::begin(&mut words, 5) {
-            Ok(mut entry) => {
-                for i in 0..5u32 {
-                    let _ = entry.enter(i, (i + 1) % 5);
-                }
-                let first = first_group(&BitTable::copy_of(&entry.seal()), 2);
-                assert_eq!(rt; &first.group.words(), &[0b11100u32, 0, 0, 0]);
-                assert_eq!(rt; &first.top, &4);
-            }
-            Err(_) => assert!(rt; false),
+        let Ok(mut entry) = Entry::begin(&mut words, 5) else {
+            panic!(rt; "an entry of five marks is begun");
+        };
+        for i in 0..5u32 {
+            assert!(rt; entry.enter(i, (i + 1) % 5).is_ok());
         }
+        let first = first_group(&BitTable::copy_of(&entry.seal()), 2);
+        assert_eq!(rt; first.group.words(), [0b11100u32, 0, 0, 0]);
+        assert_eq!(rt; first.top, 4);
     }
 }

@@ -1,30 +1,23 @@
 -- A list read mark by mark: one mark more, a mark that does not rise or is too high, and the end.
-use Rattle.std.proofs.Common.{◌≡◌, ℕ, suc, ◌+◌, ◌<◌, ◌≤◌, Bool, true, false, ◌&&◌, ◌||◌, eqb, ltb, leb, ◌⊎◌, List, length, get_or, drop, sym, ap, ◌∙◌, inl, inr, add-one, arith}
+use Rattle.std.proofs.Common.{◌≡◌, ℕ, suc, ◌+◌, ◌<◌, ◌≤◌, Bool, true, false, ◌&&◌, ◌||◌, eqb, ltb, leb, List, length, get_or, drop, sym, ap, ◌∙◌, add-one, arith}
 use mathlib.Core.Path.{fun_ext}
 use Rattle.std.proofs.lemmas.List.{at_drop_more, at_drop_all}
-use Rattle.std.proofs.lemmas.Bool.{lt-ltb, le-ltb, le-leb, lt-leb, and_from, and_right}
 use Rattle.plex.specs.Sets.{Set, only, ◌∪◌, among}
 use Rattle.searching.specs.Computed.{is_rising}
 
--- the list goes on to rise behind a mark that is high enough and not too high
-pub rises_on : (n low : ℕ) (list : List ℕ) (i : ℕ) → i < length list → low ≤ get_or list i 0 → get_or list i 0 < n →
+-- the list goes on to rise behind a mark that is in range
+pub rises_on : (n low : ℕ) (list : List ℕ) (i : ℕ) → i < length list → (leb low (get_or list i 0) && ltb (get_or list i 0) n) ≡ true →
     is_rising n low (drop i list) ≡ is_rising n (get_or list i 0 + 1) (drop (i + 1) list)
-rises_on n low list i h l m =
+rises_on n low list i h e =
     let x = get_or list i 0 in
     let rest = drop (i + 1) list in
-    at_drop_more (is_rising n low) list i 0 h
-    ∙ ap (λ b. b && is_rising n (suc x) rest) (and_from (leb low x) (ltb x n) (le-leb low x l) (lt-ltb x n m))
-    ∙ ap (λ y. is_rising n y rest) (sym (add-one x))
+    at_drop_more (is_rising n low) list i 0 h ∙ ap (λ b. b && is_rising n (suc x) rest) e ∙ ap (λ y. is_rising n y rest) (sym (add-one x))
 
--- a mark that is too low or too high
-wrong_mark : (n low x : ℕ) → (x < low) ⊎ (n ≤ x) → (leb low x && ltb x n) ≡ false
-wrong_mark n low x (inl h) = ap (λ b. b && ltb x n) (lt-leb low x h)
-wrong_mark n low x (inr h) = and_right (leb low x) (ltb x n) (le-ltb x n h)
-
-pub rises_no_more : (n low : ℕ) (list : List ℕ) (i : ℕ) → i < length list → (get_or list i 0 < low) ⊎ (n ≤ get_or list i 0) →
+-- and no more behind one that is not
+pub rises_no_more : (n low : ℕ) (list : List ℕ) (i : ℕ) → i < length list → (leb low (get_or list i 0) && ltb (get_or list i 0) n) ≡ false →
     is_rising n low (drop i list) ≡ false
-rises_no_more n low list i h w =
-    at_drop_more (is_rising n low) list i 0 h ∙ ap (λ b. b && is_rising n (suc (get_or list i 0)) (drop (i + 1) list)) (wrong_mark n low (get_or list i 0) w)
+rises_no_more n low list i h e =
+    at_drop_more (is_rising n low) list i 0 h ∙ ap (λ b. b && is_rising n (suc (get_or list i 0)) (drop (i + 1) list)) e
 
 pub rises_to_end : (n low : ℕ) (list : List ℕ) (i : ℕ) → length list ≤ i → is_rising n low (drop i list) ≡ true
 rises_to_end n low list i h = at_drop_all (is_rising n low) list i h

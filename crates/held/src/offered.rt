@@ -10,12 +10,12 @@ pub fn set_of_rising(list: &[u32], n: u32) -> Option<MarkSet>
     let limit = n.min(128);
     let mut set = MarkSet::empty();
     let mut lowest = 0;
-    for mark in list {
-        if *mark < lowest || *mark >= limit {
+    for &mark in list {
+        if !(lowest..limit).contains(&mark) {
             return None;
         }
-        set = set.with(*mark);
-        lowest = *mark + 1;
+        set = set.with(mark);
+        lowest = mark + 1;
     }
     Some(set)
 }

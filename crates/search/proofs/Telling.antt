@@ -1,7 +1,9 @@
 -- What a search says of itself: the open branches, one after the other, counted over 128.
-use Rattle.std.proofs.Common.{◌≡◌, ℕ, zero, suc, ◌+◌, ◌<◌, ◌≤◌, max, true, false, eqb, List, ◌++◌, length, sym, refl, ap, ◌∙◌, ap₂, inl, inr, append-nil, add-one, arith}
+use Rattle.std.proofs.Common.{◌≡◌, ℕ, zero, suc, ◌+◌, ◌<◌, ◌≤◌, max, true, false, eqb, List, [], ◌∷◌, ◌++◌, length, get_or, take, fold, drop, Some, None, Option, sym, refl, ap, ◌∙◌, ap₂, inl, inr, append-nil, add-one, arith}
 use Rattle.std.proofs.lemmas.Bool.Decides.{nat_tests}
 use Rattle.std.proofs.lemmas.Bool.{cases_eq}
+use Rattle.std.proofs.lemmas.List.{take_more}
+use Rattle.std.proofs.lemmas.List.Sums.{fold-append}
 use Rattle.plex.specs.Sets.{Set, card, Within, rising, if_in}
 use Rattle.plex.specs.Words.{holds}
 use Rattle.plex.proofs.Count.{card_beyond}
@@ -10,10 +12,14 @@ use Rattle.branch.specs.declared.branches.Branch.{Branch}
 use Rattle.searching.specs.States.{branch, widest, steps_for, steps_over, none_open, capped}
 use Rattle.searching.specs.Sound.{SoundBranch}
 use Rattle.searching.proofs.Branches.{stacked_few, capped_sum}
-use Rattle.held.specs.Groups.{held_set}
+use Rattle.std.specs.Option.{ok_or}
+use Rattle.held.specs.Groups.{held_set, CopiesInto}
+use Rattle.ceiling.specs.Rules.{Number}
+use Rattle.searching.specs.declared.refusal.SearchRefusal.TheVariants.{TooFewPlaces}
+use Rattle.searching.specs.Calls.{CopiedOut}
 use Rattle.search.specs.declared.searches.Search.{Search}
-use Rattle.search.specs.Stacks.{chosen_at, candidates_at}
-use Rattle.search.specs.View.{opened}
+use Rattle.search.specs.Stacks.{no_branch, chosen_at, candidates_at}
+use Rattle.search.specs.View.{opened, view}
 use Rattle.search.proofs.Stacks.{sound_here, stacked_all, inside_within}
 
 pub opened_length : (bs : List Branch) (m : ℕ) → length (opened bs m) ≡ m
@@ -49,21 +55,48 @@ module _ {R : Type 0} (s : Search R) where
     pub candidates_count : card 128 (candidates_at s.branches j) ≡ card s.sheet.marks (candidates_at s.branches j)
     candidates_count = card_beyond s.sheet.marks 128 (candidates_at s.branches j) here.candidates s.sheet.few
 
--- one branch more
-pub widest_more : (n : ℕ) (bs : List Branch) (m size most wide most' : ℕ) → most ≡ max size (widest n (opened bs m)) →
-    wide ≡ card n (chosen_at bs m) + card n (candidates_at bs m) → most' ≡ max most wide → most' ≡ max size (widest n (opened bs (m + 1)))
-widest_more n bs m size most wide most' e f g =
-    let more : widest n (opened bs (m + 1)) ≡ max (card n (chosen_at bs m) + card n (candidates_at bs m)) (widest n (opened bs m)) =
-    ap (λ x. widest n (opened bs x)) (add-one m) in
-    omega arith
+-- how many marks a branch has, chosen or candidates, and the steps that it can take, counted over 128
+abbrev pub width : Branch → ℕ
+width b = card 128 (holds b.chosen) + card 128 (holds b.candidates)
 
-pub steps_more : (n : ℕ) (bs : List Branch) (m left own left' size : ℕ) → left ≡ capped (steps_over n (opened bs m)) → size ≡ card n (candidates_at bs m) →
-    own ≡ capped (steps_for size) → left' ≡ capped (left + own) → left' ≡ capped (steps_over n (opened bs (m + 1)))
-steps_more n bs m left own left' size e f g h =
-    let own' : own ≡ capped (steps_for (card n (candidates_at bs m))) = g ∙ ap (λ x. capped (steps_for x)) f in
-    let more : steps_over n (opened bs (m + 1)) ≡ steps_for (card n (candidates_at bs m)) + steps_over n (opened bs m) =
-    ap (λ x. steps_over n (opened bs x)) (add-one m) in
-    omega (arith, capped_sum (steps_for (card n (candidates_at bs m))) (steps_over n (opened bs m)))
+abbrev pub own_steps : Branch → ℕ
+own_steps b = capped (steps_for (card 128 (holds b.candidates)))
+
+module _ {R : Type 0} (s : Search R) (long : length s.branches ≡ 129) where
+  -- one branch more
+  one_further : {A : Type 0} (h : A → Branch → A) (a : A) (m : ℕ) → m < s.count →
+      fold h a (take (suc m) s.branches) ≡ h (fold h a (take m s.branches)) (get_or s.branches m no_branch)
+  one_further h a m l =
+      ap (λ k. fold h a (take k s.branches)) (sym (add-one m))
+      ∙ ap (fold h a) (take_more s.branches m no_branch (omega (arith, few_open s)))
+      ∙ fold-append h a (take m s.branches) (get_or s.branches m no_branch ∷ [])
+
+  pub widest_of : (size m : ℕ) → m ≤ s.count →
+      fold (λ most b. max most (width b)) size (take m s.branches) ≡ max size (widest s.sheet.marks (opened s.branches m))
+  widest_of size zero l = omega arith
+  widest_of size (suc m) l =
+      omega (
+        arith,
+        one_further (λ most b. max most (width b)) size m (omega arith),
+        widest_of size m (omega arith),
+        chosen_count s m (omega arith),
+        candidates_count s m (omega arith),
+      )
+
+  pub steps_of : (m : ℕ) → m ≤ s.count →
+      fold (λ left b. capped (left + own_steps b)) 0 (take m s.branches) ≡ capped (steps_over s.sheet.marks (opened s.branches m))
+  steps_of zero l = refl
+  steps_of (suc m) l =
+      let n = s.sheet.marks in
+      let own : own_steps (get_or s.branches m no_branch) ≡ capped (steps_for (card n (candidates_at s.branches m))) =
+      ap (λ x. capped (steps_for x)) (candidates_count s m (omega arith)) in
+      omega (
+        arith,
+        one_further (λ left b. capped (left + own_steps b)) 0 m (omega arith),
+        steps_of m (omega arith),
+        own,
+        capped_sum (steps_for (card n (candidates_at s.branches m))) (steps_over n (opened s.branches m)),
+      )
 
 pub none_test : (bs : List Branch) (m : ℕ) → eqb m 0 ≡ none_open (opened bs m)
 none_test bs zero = refl
@@ -88,3 +121,15 @@ rising_beyond n (suc m) s w l =
           (let out : s m ≡ false = (let y = w m in grind arith) in
           ap₂ ◌++◌ (rising_beyond n m s w (omega arith)) (ap (λ b. if_in b m) out) ∙ append-nil (rising n s))
     ]
+
+-- a copy of the group held into places is what a copy-out is to leave
+pub copied_out : {R : Type 0} (number : R → Number) (s : Search R) (places places' : List ℕ) (o : Option ℕ) → s.count ≤ 0 → CopiesInto (held_set s.held) places places' o →
+    CopiedOut (view number s) places (ok_or o TooFewPlaces) places'
+copied_out number s places places' None l c = ((closed s.branches s.count l, omega (arith, c.0, held_count s)), c.1)
+copied_out number s places places' (Some count) l c = record {
+  done = closed s.branches s.count l;
+  room = omega (arith, c.0, c.1, held_count s);
+  count_is = c.0 ∙ held_count s;
+  written =
+      c.2 ∙ ap₂ (λ xs m. xs ++ drop m places) (rising_beyond s.sheet.marks 128 (held_set s.held) (held_within s) s.sheet.few) (c.0 ∙ held_count s);
+}

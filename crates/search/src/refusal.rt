@@ -5,39 +5,28 @@ ghost use Rattle.search.specs.Making.{number};
 
 use searching::refusal::SearchRefusal;
 
+// Not co-pruning's enum, which has one refusal more.
 #[derive(Clone, Copy)]
 pub enum MakeRefusal {
     // k is not 1 to 16
-    KOutOfRange,
+    KOutOfRange = 41,
     // fewer places for marks than the sheet has marks
-    TooFewMarkPlaces,
+    TooFewMarkPlaces = 42,
     // fewer places for pairs than the sheet has agreements
-    TooFewPairPlaces,
+    TooFewPairPlaces = 43,
 }
 
 impl MakeRefusal {
     pub fn number(self) -> u32
         ensures { result ≡ number self }
     {
-        match self {
-            MakeRefusal::KOutOfRange => 41,
-            MakeRefusal::TooFewMarkPlaces => 42,
-            MakeRefusal::TooFewPairPlaces => 43,
-        }
+        self as u32
     }
 }
 
-// The number of a call's refusal.
+// The number of a call's refusal. No method: the enum stands in the theory below.
 pub fn number_of(refusal: SearchRefusal) -> u32
     ensures { result ≡ call_number refusal }
 {
-    match refusal {
-        SearchRefusal::BudgetOutOfRange => 51,
-        SearchRefusal::ListTooLong => 52,
-        SearchRefusal::NotRisingMarks => 53,
-        SearchRefusal::NotPlex => 54,
-        SearchRefusal::NotLarger => 55,
-        SearchRefusal::NotSettled => 56,
-        SearchRefusal::TooFewPlaces => 57,
-    }
+    refusal as u32
 }

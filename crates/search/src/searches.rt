@@ -16,7 +16,7 @@ pub struct Search<R> {
     sheet: BitTable,
     table: BitTable,
     held: Held,
-    // the open branches, the newest last
+    // the open branches, the newest last: a table of 129, as the rules say, with its count
     branches: [Branch; 129],
     count: usize,
     ghost alike: { table.marks ≡ sheet.marks },

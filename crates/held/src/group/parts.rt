@@ -9,10 +9,8 @@ impl Held {
         ensures { result.set ≡ set }
     {
         let mut marks = [0; 128];
-        let mut filled = 0;
-        for mark in set.rising() {
-            marks[filled] = mark;
-            filled += 1;
+        for (place, mark) in set.rising().enumerate() {
+            marks[place] = mark;
         }
         Held { marks, set }
     }

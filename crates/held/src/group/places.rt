@@ -1,7 +1,7 @@
 // How many places a group takes, and writing it into places that the caller lends.
-ghost use Rattle.std.specs.Prelude.{◌≡◌, true, false, ◌++◌, length, drop, nat_le};
-ghost use Rattle.plex.specs.Sets.{card, rising};
-ghost use Rattle.held.specs.Groups.{held_set};
+ghost use Rattle.std.specs.Prelude.{◌≡◌};
+ghost use Rattle.plex.specs.Sets.{card};
+ghost use Rattle.held.specs.Groups.{held_set, CopiesInto};
 
 use super::Held;
 
@@ -13,19 +13,17 @@ impl Held {
         self.set.count()
     }
 
-    // Writes the marks, rising, into the first places; says whether there were places enough, and otherwise writes nothing.
-    pub fn copy_into(&self, places: &mut [u32]) -> bool
-        ensures said { result ≡ nat_le (card 128 (held_set self.now)) (length places.old) }
-        ensures copied { result ≡ true → places.new ≡ rising 128 (held_set self.now) ++ drop (card 128 (held_set self.now)) places.old }
-        ensures refused { result ≡ false → places.new ≡ places.old }
+    // Writes the marks, rising, into the first places, and says how many; none, and nothing is written, where there are too
+    // few places.
+    pub fn copy_into(&self, places: &mut [u32]) -> Option<u32>
+        ensures { CopiesInto (held_set self.now) places.old places.new result }
     {
-        let count = self.count() as usize;
-        if places.len() < count {
-            return false;
+        let count = self.count();
+        let end = count as usize;
+        if places.len() < end {
+            return None;
         }
-        for i in 0..count {
-            places[i] = self.marks[i];
-        }
-        true
+        places[..end].copy_from_slice(&self.marks[..end]);
+        Some(count)
     }
 }

@@ -37,7 +37,7 @@ impl<R: CeilingRule> Search<R> {
         ensures makes { Making R.CeilingRule.number (S.Sheet.meaning sheet.now) k rule (length mark_space.old) (length pair_space.old) result }
         ensures spaces { Spaces R.CeilingRule.number result mark_space.old mark_space.new pair_space.old pair_space.new }
     {
-        if k == 0 || k > 16 {
+        if !(1..=16).contains(&k) {
             return Err(MakeRefusal::KOutOfRange);
         }
         if mark_space.len() < sheet.marks() as usize {
@@ -46,18 +46,24 @@ impl<R: CeilingRule> Search<R> {
         if pair_space.len() < pair_places(sheet) as usize {
             return Err(MakeRefusal::TooFewPairPlaces);
         }
-        let start = first_state(sheet, k, mark_space, pair_space);
-        let branches = start.branches;
+        let Start {
+            top,
+            sheet,
+            table,
+            held,
+            branches,
+            count,
+        } = first_state(sheet, k, mark_space, pair_space);
         Ok(Search {
             rule,
             k,
-            top: start.top,
+            top,
             taken: 0,
-            sheet: start.sheet,
-            table: start.table,
-            held: start.held,
+            sheet,
+            table,
+            held,
             branches,
-            count: start.count,
+            count,
         })
     }
 }
@@ -80,7 +86,10 @@ fn first_state<S: Sheet>(
     mark_space: &mut [u32],
     pair_space: &mut [Pair],
 ) -> Start
-    requires { (1 ≤ k) × ((k ≤ 16) × (((S.Sheet.meaning sheet.now).marks ≤ length mark_space.old) × (pair_places (S.Sheet.meaning sheet.now) ≤ length pair_space.old))) }
+    requires low { 1 ≤ k }
+    requires high { k ≤ 16 }
+    requires marks { (S.Sheet.meaning sheet.now).marks ≤ length mark_space.old }
+    requires pairs { pair_places (S.Sheet.meaning sheet.now) ≤ length pair_space.old }
     ensures made { Starts (S.Sheet.meaning sheet.now) k result }
     ensures idle { result.count ≡ 0 → (mark_space.new ≡ mark_space.old) × (pair_space.new ≡ pair_space.old) }
 {

@@ -21,6 +21,7 @@ impl<R: CeilingRule> Search<R> {
     {
         let group = self.judge(marks)?;
         self.held = Held::of(group);
+        // an accepted call that has no other answer answers 0, as the rules say
         Ok(0)
     }
 
@@ -32,17 +33,13 @@ impl<R: CeilingRule> Search<R> {
         if marks.len() > all as usize {
             return Err(SearchRefusal::ListTooLong);
         }
-        match set_of_rising(marks, all) {
-            None => Err(SearchRefusal::NotRisingMarks),
-            Some(group) => {
-                if !is_kplex(&self.sheet, self.k, group) {
-                    return Err(SearchRefusal::NotPlex);
-                }
-                if group.count() <= self.held.count() {
-                    return Err(SearchRefusal::NotLarger);
-                }
-                Ok(group)
-            }
+        let group = set_of_rising(marks, all).ok_or(SearchRefusal::NotRisingMarks)?;
+        if !is_kplex(&self.sheet, self.k, group) {
+            return Err(SearchRefusal::NotPlex);
         }
+        if group.count() <= self.held.count() {
+            return Err(SearchRefusal::NotLarger);
+        }
+        Ok(group)
     }
 }

@@ -25,16 +25,14 @@ impl<R: CeilingRule> Search<R> {
         ensures runs { Runs largest budget (view R.CeilingRule.number self.old) result (view R.CeilingRule.number self.new) }
         ensures unchanged { is_ok result ≡ false → self.new ≡ self.old }
     {
-        if budget == 0 || budget > largest {
+        if !(1..=largest).contains(&budget) {
             return Err(SearchRefusal::BudgetOutOfRange);
         }
-        let mut taken = 0;
-        while taken < budget {
+        for taken in 0..budget {
             if self.step() == 0 {
                 return Ok(taken);
             }
-            taken += 1;
         }
-        Ok(taken)
+        Ok(budget)
     }
 }

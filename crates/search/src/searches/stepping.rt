@@ -15,7 +15,7 @@ use marks::set::MarkSet;
 use rule::rules::CeilingRule;
 use tables::bits::BitTable;
 
-// What becomes of a branch.
+// What becomes of a branch: an enum and no closure, since all three are known here.
 #[derive(Clone, Copy)]
 pub(crate) enum Outcome {
     // nothing larger than the group held lies in it
@@ -38,19 +38,17 @@ fn outcome_of<R: CeilingRule>(
 {
     let chosen = MarkSet::from_words(branch.chosen);
     let candidates = MarkSet::from_words(branch.candidates);
-    if chosen.count() + candidates.count() <= held {
-        return Outcome::Closes;
-    }
-    if rule.ceiling(k, table, chosen, candidates) <= held {
+    if chosen.count() + candidates.count() <= held
+        || rule.ceiling(k, table, chosen, candidates) <= held
+    {
         return Outcome::Closes;
     }
     if is_kplex(table, k, chosen.or(candidates)) {
         return Outcome::Takes;
     }
-    match branch.split_mark(k, table) {
-        Some(u) => Outcome::Splits(u),
-        None => Outcome::Closes,
-    }
+    branch
+        .split_mark(k, table)
+        .map_or(Outcome::Closes, Outcome::Splits)
 }
 
 impl<R: CeilingRule> Search<R> {

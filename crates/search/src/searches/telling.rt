@@ -1,5 +1,5 @@
 // What a search says of itself.
-ghost use Rattle.std.specs.Prelude.{◌≡◌, ◌+◌};
+ghost use Rattle.std.specs.Prelude.{◌≡◌, ◌+◌, take};
 ghost use Rattle.plex.specs.Sets.{card};
 ghost use Rattle.plex.specs.Words.{holds};
 ghost use Rattle.searching.specs.Calls.{Does, Report, Tally as TallyCall, CopyOut};
@@ -36,15 +36,22 @@ fn as_capped(count: u32) -> u32
 }
 
 impl<R: CeilingRule> Search<R> {
+    // The open branches, the newest last.
+    fn open(&self) -> &[Branch]
+        ensures { result.now ≡ take self.now.count self.now.branches }
+    {
+        &self.branches[..self.count]
+    }
+
     // The size of the group held, and a number of marks that no k-plex of the sheet exceeds.
     pub fn report(&self) -> (u32, u32)
         ensures { Does (view R.CeilingRule.number self.now) Report result (view R.CeilingRule.number self.now) }
     {
         let size = self.held.count();
-        let mut most = size;
-        for at in 0..self.count {
-            most = most.max(width_of(self.branches[at]));
-        }
+        let most = self
+            .open()
+            .iter()
+            .fold(size, |most, branch| most.max(width_of(*branch)));
         (size, most.min(self.top))
     }
 
@@ -52,10 +59,9 @@ impl<R: CeilingRule> Search<R> {
     pub fn tally(&self) -> Tally
         ensures { Does (view R.CeilingRule.number self.now) TallyCall result (view R.CeilingRule.number self.now) }
     {
-        let mut left = 0;
-        for at in 0..self.count {
-            left = add_capped(left, steps_for(candidates_in(self.branches[at])));
-        }
+        let left = self.open().iter().fold(0, |left, branch| {
+            add_capped(left, steps_for(candidates_in(*branch)))
+        });
         Tally {
             taken: as_capped(self.taken),
             left,
@@ -70,9 +76,8 @@ impl<R: CeilingRule> Search<R> {
         if self.count > 0 {
             return Err(SearchRefusal::NotSettled);
         }
-        if !self.held.copy_into(places) {
-            return Err(SearchRefusal::TooFewPlaces);
-        }
-        Ok(self.held.count())
+        self.held
+            .copy_into(places)
+            .ok_or(SearchRefusal::TooFewPlaces)
     }
 }

@@ -6,9 +6,8 @@ use Rattle.first.proofs.degrees.lower.Given as goal
 
 abbrev pub invariant-loop-v : goal.invariant-loop-v
 invariant-loop-v l =
-    (members l.rest ⊆ members l.initial.rest)
+    (goal.iterator-loop-v).can_next l.v-iterator
+    × (goal.iterator-loop-v).is_finite l.v-iterator
+    × (members l.v-iterator.rest ⊆ members l.fn.marks)
     × (length l.degrees ≡ 128)
-    × OneLess l.initial.degrees (members l.initial.rest ∖ members l.rest) l.degrees
-
-abbrev pub decreases-loop-v : goal.decreases-loop-v
-decreases-loop-v l = l.rest.count
+    × OneLess l.initial.degrees (members l.fn.marks ∖ members l.v-iterator.rest) l.degrees

@@ -1,6 +1,6 @@
 use Rattle.std.proofs.Common.{◌≡◌, ◌+◌, min, max, sym, ap, ◌∙◌, ap₂, arith, rules}
 use Rattle.std.proofs.lemmas.Bool.{ltb-true}
-use Rattle.plex.specs.Sets.{card, only, ◌∩◌, ◌∖◌}
+use Rattle.plex.specs.Sets.{card, only, below, ◌∩◌, ◌∖◌}
 use Rattle.plex.proofs.Count.{card_le}
 use Rattle.marks.specs.Members.{members}
 use Rattle.marks.proofs.Lowering.{fewer_without}
@@ -13,11 +13,12 @@ use Rattle.first.proofs.group.first_group.Goals as goal
 pub loop-u-init : goal.loop-u-init
 loop-u-init c =
     let m = bit_meaning c.args.table.now in
-    let all = c.all_marks-group.ensures in (
+    let fits : min c.marks.result 128 ≡ m.marks = omega (arith, c.marks.ensures, m.few) in
+    let all : members c.below-group.result ≡ below m.marks = c.below-group.ensures ∙ ap below fits in (
       (λ i t. ltb-true i m.marks (sym (ap (λ s. s i) all) ∙ t)),
       search rules,
       c.degrees_in-degrees.ensures,
-      onward_start m.marks c.args.k m.agrees (members c.all_marks-group.result) all,
+      onward_start m.marks c.args.k m.agrees (members c.below-group.result) all,
     )
 
 pub returns-then-most-count : goal.returns-then-most-count

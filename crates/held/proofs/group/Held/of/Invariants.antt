@@ -5,10 +5,10 @@ use Rattle.marks.specs.Members.{members}
 use Rattle.marks.specs.Rising.{to_come}
 use Rattle.held.proofs.group.Held.of.Given as goal
 
-abbrev pub invariant-loop-mark : goal.invariant-loop-mark
-invariant-loop-mark l =
-    (goal.iterator-loop-mark).can_next l.mark-iterator
-    × (goal.iterator-loop-mark).is_finite l.mark-iterator
+abbrev pub invariant-loop-place : goal.invariant-loop-place
+invariant-loop-place l =
+    (goal.iterator-loop-place).can_next l.place-iterator
+    × (goal.iterator-loop-place).is_finite l.place-iterator
     × (length l.marks ≡ 128)
-    × (l.filled ≤ 128)
-    × (take l.filled l.marks ++ to_come l.mark-iterator ≡ rising 128 (members l.set))
+    × (l.place-iterator.count ≤ 128)
+    × (take l.place-iterator.count l.marks ++ to_come l.place-iterator.iter ≡ rising 128 (members l.set))

@@ -1,4 +1,4 @@
-use Rattle.std.proofs.Common.{◌+◌, ◌-◌, ◌^◌, ◌≤◌, refl, arith}
+use Rattle.std.proofs.Common.{◌+◌, ◌-◌, ◌^◌, ◌≤◌, refl, arith, rules}
 use Rattle.searching.proofs.Law.{the_law, law_meant}
 use Rattle.search.specs.View.{view}
 use Rattle.search.specs.Starting.{state_of}
@@ -10,8 +10,8 @@ invariant_of-result g c =
     let m = g.S.Sheet.meaning c.args.sheet.now in
     let k = c.args.k in
     let rule = g.R.CeilingRule.number c.args.rule in
-    let s = c.first_state-start.result in
-    let w = c.first_state-start.ensures.made in
+    let s = c.first_state-top.result in
+    let w = c.first_state-top.ensures.made in
     record {
       alike = w.alike;
       chosens = starts_chosens m k rule s w;
@@ -28,10 +28,10 @@ returns g c =
     let k = c.args.k in
     let number = g.R.CeilingRule.number in
     let rule = number c.args.rule in
-    let s = c.first_state-start.result in
-    let w = c.first_state-start.ensures.made in
-    let low : 1 ≤ k = omega (arith, c.if-k-eq0.false) in
-    let high : k ≤ 16 = omega (arith, c.if-k-gt16.false) in
+    let s = c.first_state-top.result in
+    let w = c.first_state-top.ensures.made in
+    let low : 1 ≤ k = search rules in
+    let high : k ≤ 16 = search rules in
     let law = the_law m k rule low high (g.met.R.CeilingRule.lawful c.args.rule) (state_of rule k s) (w.made rule) in
     record {
       makes = record {
@@ -43,5 +43,5 @@ returns g c =
         made = w.made rule;
         law = law_meant (view number) m.marks k m.agrees (2 ^ (m.marks + 1) - 1) _ law;
       };
-      spaces = ((λ l. c.first_state-start.ensures.idle (w.closed rule l)), (λ _. (tt, tt)));
+      spaces = ((λ l. c.first_state-top.ensures.idle (w.closed rule l)), (λ _. (tt, tt)));
     }

@@ -1,13 +1,10 @@
-use Rattle.std.proofs.Common.{inl, inr, arith}
+use Rattle.std.proofs.Common.{inl, inr}
 use Rattle.searching.specs.Steps.{still, onward}
 use Rattle.search.proofs.searches.Search.run_within.Goals as goal
 
 pub loop-taken-init : goal.loop-taken-init
-loop-taken-init g c = (still, omega arith)
+loop-taken-init g c = still
 
 pub loop-taken-preserved : goal.loop-taken-preserved
 loop-taken-preserved g c =
-    elim c.step.ensures [
-      | inl x ↦ (onward c.loop-taken.invariant.0 x.1, omega (arith, c.loop-taken-test.true))
-      | inr x ↦ absurd (c.if-step-eq0.false x.0)
-    ]
+    elim c.step.ensures [ inl x ↦ onward c.loop-taken.invariant x.1 | inr x ↦ absurd (c.if-step-eq0.false x.0) ]

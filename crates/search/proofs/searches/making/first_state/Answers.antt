@@ -34,10 +34,10 @@ returns g c =
           (let table' = w.co_prune.new.sheet in
           let left' = w.co_prune.new.left in
           let more : card 128 (members held) < top = omega (arith, floor, w.if-floor-first.true) in
-          let pairs : pair_places (bit_meaning copy) ≤ length c.args.pair_space.now = omega (arith, ap₂ agreements marks agrees, c.requires.1.1.1) in
+          let pairs : pair_places (bit_meaning copy) ≤ length c.args.pair_space.now = omega (arith, ap₂ agreements marks agrees, c.requires.pairs) in
           let remains : Remains (bit_meaning copy) k c.count-floor.result (bit_meaning table') (members left') =
           accepted (bit_meaning copy) k c.count-floor.result (length c.args.mark_space.now) (length c.args.pair_space.now) w.co_prune.result (bit_meaning table') (members left')
-          c.requires.0 c.requires.1.0 (omega (arith, marks, c.requires.1.1.0)) pairs (omega (arith, floor, card_le 128 (members held))) w.co_prune.ensures.prunes in
+          c.requires.low c.requires.high (omega (arith, marks, c.requires.marks)) pairs (omega (arith, floor, card_le 128 (members held))) w.co_prune.ensures.prunes in
           let largest : Largest copy.marks (ends_needed k (card 128 (members held))) (shared_needed k (card 128 (members held))) (bit_meaning copy).agrees (bit_meaning table).agrees =
           subst (λ f. Largest copy.marks (ends_needed k f) (shared_needed k f) (bit_meaning copy).agrees (bit_meaning table).agrees) floor
           (subst (λ t. Largest copy.marks (ends_needed k c.count-floor.result) (shared_needed k c.count-floor.result) (bit_meaning copy).agrees t)
