@@ -118,11 +118,9 @@ pub fn good(rt: &HostRuntime) -> io::Result<()> {
 
 // The pairs of a pentagon and its end.
 pub fn pentagon(file: &mut File) -> Result<(), AllocError> {
-    file.pair(0, 1)?;
-    file.pair(0, 4)?;
-    file.pair(1, 2)?;
-    file.pair(2, 3)?;
-    file.pair(3, 4)?;
+    for (a, b) in [(0, 1), (0, 4), (1, 2), (2, 3), (3, 4)] {
+        file.pair(a, b)?;
+    }
     file.word(15, 5)
 }
 

@@ -19,20 +19,15 @@ fn show<S: Sheet>(rt: &HostRuntime, name: &str, sheet: &S) -> io::Result<()> {
 fn show_mark<S: Sheet>(rt: &HostRuntime, sheet: &S, i: u32, marks: u32) -> io::Result<()> {
     let [w0, w1, w2, w3] = sheet.row(i);
     print!(rt; "  {i} row {w0:x} {w1:x} {w2:x} {w3:x} agrees with")?;
-    for j in 0..marks {
-        if sheet.agree(i, j) {
-            print!(rt; " {j}")?;
-        }
+    for j in (0..marks).filter(|j| sheet.agree(i, *j)) {
+        print!(rt; " {j}")?;
     }
     println!(rt; "")
 }
 
 // The number of the answer to an entered pair.
 fn answer(entered: Result<u32, EntryRefusal>) -> u32 {
-    match entered {
-        Ok(n) => n,
-        Err(refusal) => refusal.number(),
-    }
+    entered.unwrap_or_else(EntryRefusal::number)
 }
 
 // A pentagon, entered in words that hold something else, one pair twice.
@@ -42,10 +37,9 @@ pub fn entered(rt: &HostRuntime) -> io::Result<()> {
         let first = answer(entry.enter(0, 1));
         let again = answer(entry.enter(1, 0));
         println!(rt; "entered {first}, again {again}")?;
-        let _ = entry.enter(0, 4);
-        let _ = entry.enter(1, 2);
-        let _ = entry.enter(2, 3);
-        let _ = entry.enter(3, 4);
+        for (i, j) in [(0, 4), (1, 2), (2, 3), (3, 4)] {
+            let _ = entry.enter(i, j);
+        }
         let outside = answer(entry.enter(5, 5));
         let same = answer(entry.enter(4, 4));
         println!(rt; "a mark outside {outside}, the same mark {same}")?;
@@ -75,23 +69,19 @@ pub fn beginnings(rt: &HostRuntime) -> io::Result<()> {
     )
 }
 
-fn show_refusal(rt: &HostRuntime, name: &str, refusal: FileRefusal) -> io::Result<()> {
-    let number = refusal.number();
-    let place = refusal.place;
-    println!(rt; "{name}: refused {number} at word {place}")
-}
-
-fn show_pairs(rt: &HostRuntime, name: &str, words: &[u32]) -> io::Result<()> {
-    match PairSheet::read(words) {
+// Shows the sheet of a file, or why the file is refused.
+fn show_read<S: Sheet + Drop>(
+    rt: &HostRuntime,
+    name: &str,
+    read: Result<S, FileRefusal>,
+) -> io::Result<()> {
+    match read {
         Ok(sheet) => show(rt, name, &sheet),
-        Err(refusal) => show_refusal(rt, name, refusal),
-    }
-}
-
-fn show_measured(rt: &HostRuntime, name: &str, words: &[u32]) -> io::Result<()> {
-    match MeasuredSheet::read(words) {
-        Ok(sheet) => show(rt, name, &sheet),
-        Err(refusal) => show_refusal(rt, name, refusal),
+        Err(refusal) => {
+            let number = refusal.number();
+            let place = refusal.place;
+            println!(rt; "{name}: refused {number} at word {place}")
+        }
     }
 }
 
@@ -100,15 +90,23 @@ const PENTAGON: [u32; 7] = [
 ];
 
 pub fn pairs(rt: &HostRuntime) -> io::Result<()> {
-    show_pairs(rt, "pentagon file", &PENTAGON)?;
-    show_measured(rt, "pentagon file, read as measured", &PENTAGON)?;
-    show_pairs(
+    show_read(rt, "pentagon file", PairSheet::read(&PENTAGON))?;
+    show_read(
+        rt,
+        "pentagon file, read as measured",
+        MeasuredSheet::read(&PENTAGON),
+    )?;
+    show_read(
         rt,
         "measured file, read as pairs",
-        &[0x10000101, 0x70000000, 0x20000001],
+        PairSheet::read(&[0x10000101, 0x70000000, 0x20000001]),
     )?;
-    show_measured(rt, "a head alone, read as measured", &[0x10000101])?;
-    show_pairs(rt, "no marks", &[0x10000100, 0xF0000000])?;
+    show_read(
+        rt,
+        "a head alone, read as measured",
+        MeasuredSheet::read(&[0x10000101]),
+    )?;
+    show_read(rt, "no marks", PairSheet::read(&[0x10000100, 0xF0000000]))?;
     wide(rt)
 }
 
@@ -117,9 +115,9 @@ fn wide(rt: &HostRuntime) -> io::Result<()> {
     if let Ok(sheet) = PairSheet::read(&[
         0x10000180, 0x2000007F, 0x2007C020, 0x2007C060, 0xF0000003,
     ]) {
-        show_mark(rt, &sheet, 0, 128)?;
-        show_mark(rt, &sheet, 31, 128)?;
-        show_mark(rt, &sheet, 127, 128)?;
+        for i in [0u32, 31, 127] {
+            show_mark(rt, &sheet, i, 128)?;
+        }
     }
     Ok(())
 }
@@ -160,12 +158,24 @@ fn ends_of_range(tolerance: u32) -> [u32; 11] {
 }
 
 pub fn measured(rt: &HostRuntime) -> io::Result<()> {
-    show_measured(rt, "25 and 36, tolerance 11", &distances(11))?;
-    show_measured(rt, "25 and 36, tolerance 10", &distances(10))?;
-    show_measured(
+    show_read(
+        rt,
+        "25 and 36, tolerance 11",
+        MeasuredSheet::read(&distances(11)),
+    )?;
+    show_read(
+        rt,
+        "25 and 36, tolerance 10",
+        MeasuredSheet::read(&distances(10)),
+    )?;
+    show_read(
         rt,
         "the whole range, tolerance 268435455",
-        &ends_of_range(268435455),
+        MeasuredSheet::read(&ends_of_range(268435455)),
     )?;
-    show_measured(rt, "the whole range, tolerance 0", &ends_of_range(0))
+    show_read(
+        rt,
+        "the whole range, tolerance 0",
+        MeasuredSheet::read(&ends_of_range(0)),
+    )
 }

@@ -1,75 +1,72 @@
 // Asking the rules, and comparing what they answer.
-use crate::lists::{Agreed, List};
+use crate::plain::Asked;
 use marks::set::MarkSet;
 use rule::degree::DegreeRule;
 use rule::pair::PairRule;
 use rule::rules::CeilingRule;
 use rule::smaller::Smaller;
-use std::io;
+use std::ops::Add;
+use std::{fmt, io};
 use tables::bits::BitTable;
 
-// The numbers of the rules, added up over some cases; `differs` where one is not as the lists say.
-#[derive(Clone, Copy)]
+// The numbers of the rules, added up over some cases.
+#[derive(Clone, Copy, Default)]
 pub struct Found {
-    pub cases: u32,
-    pub applied: u32,
-    pub degree: u32,
-    pub pair: u32,
-    pub smaller: u32,
-    pub differs: bool,
+    cases: u32,
+    applied: u32,
+    degree: u32,
+    pair: u32,
+    smaller: u32,
 }
 
-impl Found {
-    pub fn nothing() -> Found {
-        Found {
-            cases: 0,
-            applied: 0,
-            degree: 0,
-            pair: 0,
-            smaller: 0,
-            differs: false,
-        }
-    }
+impl Add for Found {
+    type Output = Found;
 
-    // Both together.
-    pub fn and(self, other: Found) -> Found {
+    fn add(self, other: Found) -> Found {
         Found {
             cases: self.cases.saturating_add(other.cases),
             applied: self.applied.saturating_add(other.applied),
             degree: self.degree.saturating_add(other.degree),
             pair: self.pair.saturating_add(other.pair),
             smaller: self.smaller.saturating_add(other.smaller),
-            differs: self.differs || other.differs,
         }
     }
+}
 
-    // Prints the numbers.
-    pub fn show(self, rt: &HostRuntime) -> io::Result<()> {
-        self.numbers(rt)?;
-        println!(rt)
+impl fmt::Display for Found {
+    fn fmt<W: fmt::Write>(&self, f: &mut fmt::Formatter<W>) -> fmt::Result {
+        let Found {
+            degree,
+            pair,
+            smaller,
+            ..
+        } = *self;
+        write!(f, "degree {degree}, pair {pair}, smaller {smaller}")
     }
+}
 
-    // Prints the numbers, of how many cases, and of how many in which the rules apply.
-    pub fn show_cases(self, rt: &HostRuntime) -> io::Result<()> {
-        let cases = self.cases;
-        let applied = self.applied;
-        self.numbers(rt)?;
-        println!(rt; "; {cases} cases, the rules apply in {applied}")
-    }
+// Prints the numbers, if every one is as it must be.
+pub fn show(rt: &HostRuntime, found: Option<Found>) -> io::Result<()> {
+    show_numbers(rt, found)?;
+    println!(rt)
+}
 
-    fn numbers(self, rt: &HostRuntime) -> io::Result<()> {
-        if self.differs {
-            return print!(rt; " DIFFERS");
-        }
-        let degree = self.degree;
-        let pair = self.pair;
-        let smaller = self.smaller;
-        print!(rt; " degree {degree}, pair {pair}, smaller {smaller}")
+// The same, and of how many cases, and of how many in which the rules apply.
+pub fn show_cases(rt: &HostRuntime, found: Option<Found>) -> io::Result<()> {
+    show_numbers(rt, found)?;
+    let Found { cases, applied, .. } = found.unwrap_or_default();
+    println!(rt; "; {cases} cases, the rules apply in {applied}")
+}
+
+fn show_numbers(rt: &HostRuntime, found: Option<Found>) -> io::Result<()> {
+    match found {
+        Some(found) => print!(rt; " {found}"),
+        None => print!(rt; " DIFFERS"),
     }
 }
 
 // What the rules answer to one question. The pile of three has a rule twice, so it must answer as the smaller of both.
-pub fn answers(k: u32, table: &BitTable, chosen: MarkSet, candidates: MarkSet) -> Found {
+pub fn answers(k: u32, table: &BitTable, chosen: MarkSet, candidates: MarkSet) -> Option<Found> {
     let both = Smaller {
         first: DegreeRule,
         second: PairRule,
@@ -79,34 +76,31 @@ pub fn answers(k: u32, table: &BitTable, chosen: MarkSet, candidates: MarkSet) -
         second: both,
     };
     let smaller = both.ceiling(k, table, chosen, candidates);
-    Found {
+    let same = pile.ceiling(k, table, chosen, candidates) == smaller;
+    same.then_some(Found {
         cases: 1,
         applied: 0,
         degree: DegreeRule.ceiling(k, table, chosen, candidates),
         pair: PairRule.ceiling(k, table, chosen, candidates),
         smaller,
-        differs: pile.ceiling(k, table, chosen, candidates) != smaller,
-    }
+    })
 }
 
-// What the rules answer about marks below twelve, given as bits, compared with the lists.
-pub fn compared(k: u32, table: &BitTable, agreed: &Agreed, chosen: u32, candidates: u32) -> Found {
-    let mut found = answers(
-        k,
+// What the rules answer about marks below twelve, if it is as the plain computation says.
+pub fn compared(table: &BitTable, asked: Asked) -> Option<Found> {
+    let found = answers(
+        asked.k,
         table,
-        MarkSet::from_words([chosen, 0, 0, 0]),
-        MarkSet::from_words([candidates, 0, 0, 0]),
-    );
-    let marks = List::of(chosen);
-    let others = List::of(candidates & !chosen);
-    let degree = agreed.by_degree(k, &marks, &others);
-    let pair = agreed.by_pair(k, &marks, &others);
-    if agreed.applies(k, &marks) {
-        found.applied = 1;
-    }
-    found.differs = found.differs
-        || found.degree != degree
-        || found.pair != pair
-        || found.smaller != degree.min(pair);
-    found
+        MarkSet::from_words([asked.chosen, 0, 0, 0]),
+        MarkSet::from_words([asked.candidates, 0, 0, 0]),
+    )?;
+    let degree = asked.by_degree();
+    let pair = asked.by_pair();
+    let same = found.degree as usize == degree
+        && found.pair as usize == pair
+        && found.smaller as usize == degree.min(pair);
+    same.then_some(Found {
+        applied: u32::from(asked.applies()),
+        ..found
+    })
 }

@@ -1,9 +1,9 @@
 // A table of ceilings: the degree rule, the pair rule, the smaller of both and a pile of three, against a plain
-// computation over lists of marks. With an argument it prints how long the rules take on 128 marks.
+// computation. With an argument it prints how long the rules take on 128 marks.
 #![tactic(auto)]
 
 mod asked;
-mod lists;
+mod plain;
 mod sheets;
 mod timing;
 

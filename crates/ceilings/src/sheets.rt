@@ -1,39 +1,31 @@
 // Sheets about which the rules are asked.
-use crate::asked::{Found, answers, compared};
-use crate::lists::Agreed;
+use crate::asked::{Found, answers, compared, show, show_cases};
+use crate::plain::Asked;
 use marks::set::MarkSet;
-use sheet::entry::Entry;
 use std::io;
 use tables::bits::BitTable;
-
-// A table of at most twelve marks.
-fn table(marks: u32, agreed: &Agreed) -> Option<BitTable> {
-    let mut words = [0; 12];
-    match Entry::begin(&mut words, marks) {
-        Ok(mut entry) => {
-            for i in 0..12u32 {
-                for j in i..12u32 {
-                    if agreed.has(i as usize, j as usize) {
-                        let _ = entry.enter(i, j);
-                    }
-                }
-            }
-            Some(BitTable::copy_of(&entry.seal()))
-        }
-        Err(_) => None,
-    }
-}
+use trials::agreed::Agreed;
+use trials::chance::Chance;
+use trials::sheets::table;
 
 // Asks about a ring of five marks, the sets given as bits.
 fn about_ring(rt: &HostRuntime, k: u32, chosen: u32, candidates: u32) -> io::Result<()> {
-    let mut ring = Agreed::none();
-    for i in 0..5usize {
-        ring.set(i, (i + 1) % 5);
+    let mut agreed = Agreed::none();
+    for i in 0..5 {
+        agreed.set(i, (i + 1) % 5, true);
     }
     print!(rt; "pentagon, k {k}, S {chosen:05b}, C {candidates:05b}:")?;
-    match table(5, &ring) {
-        Some(table) => compared(k, &table, &ring, chosen, candidates).show(rt),
-        None => println!(rt; " NO TABLE"),
+    match table(5, |i, j| agreed.has(i, j)) {
+        Ok(table) => {
+            let asked = Asked {
+                agreed: &agreed,
+                k,
+                chosen,
+                candidates,
+            };
+            show(rt, compared(&table, asked))
+        }
+        Err(_) => println!(rt; " NO TABLE"),
     }
 }
 
@@ -51,73 +43,52 @@ pub fn worked(rt: &HostRuntime) -> io::Result<()> {
 
 // 128 marks that all agree but for each second one with the last: marks of all four words.
 pub fn far_apart(rt: &HostRuntime) -> io::Result<()> {
-    let mut words = [0; 512];
-    if let Ok(mut entry) = Entry::begin(&mut words, 128) {
-        // a mark with itself is refused, and nothing is entered
-        for i in 0..127u32 {
-            for j in i..127u32 {
-                let _ = entry.enter(i, j);
-            }
-            if i % 2 == 0 {
-                let _ = entry.enter(i, 127);
-            }
-        }
-        let table = BitTable::copy_of(&entry.seal());
+    if let Ok(table) = table(128, |i, j| j < 127 || i % 2 == 0) {
         let chosen = MarkSet::from_words([1, 2, 4, 0x8000_0000]);
-        let all = MarkSet::from_words([0xFFFF_FFFF, 0xFFFF_FFFF, 0xFFFF_FFFF, 0xFFFF_FFFF]);
+        let all = MarkSet::from_words([0xFFFF_FFFF; 4]);
         for k in [1u32, 2, 3] {
             print!(rt; "128 marks, k {k}:")?;
-            answers(k, &table, chosen, all).show(rt)?;
+            show(rt, answers(k, &table, chosen, all))?;
         }
     }
     Ok(())
-}
-
-// The next of a row of numbers that look like chance.
-pub fn next(state: u32) -> u32 {
-    state.wrapping_mul(1664525).wrapping_add(1013904223)
 }
 
 // Sheets of so many marks, of which each pair agrees in some tenths of all cases.
 pub fn generated(rt: &HostRuntime, marks: u32) -> io::Result<()> {
-    let mut state = marks;
+    let mut chance = Chance::from_seed(marks);
     for tenths in [3u32, 6, 9] {
-        let mut agreed = Agreed::none();
-        for i in 0..12usize {
-            for j in i..12usize {
-                if j < marks as usize {
-                    state = next(state);
-                    if (state >> 16) % 10 < tenths {
-                        agreed.set(i, j);
-                    }
-                }
-            }
-        }
+        let agreed = Agreed::by_chance(marks, tenths, &mut chance);
         print!(rt; "{marks} marks, {tenths} tenths:")?;
-        if let Some(table) = table(marks, &agreed) {
-            about(marks, &table, &agreed, state).show_cases(rt)?;
+        if let Ok(table) = table(marks, |i, j| agreed.has(i, j)) {
+            show_cases(rt, about(marks, &table, &agreed, chance))?;
         }
     }
     Ok(())
 }
 
+// Marks by chance, of those of a mask.
+fn some_marks(chance: &mut Chance, within: u32) -> u32 {
+    (chance.next().unwrap() >> 8) & within
+}
+
 // Asks about sets of marks, half of them small, for each k.
-fn about(marks: u32, table: &BitTable, agreed: &Agreed, start: u32) -> Found {
+fn about(marks: u32, table: &BitTable, agreed: &Agreed<12>, mut chance: Chance) -> Option<Found> {
     let within = (1 << marks.min(12)) - 1;
-    let mut state = start;
-    let mut found = Found::nothing();
+    let mut total = Found::default();
     for k in [0u32, 1, 2, 3, 4, 5, 16, 17] {
         for turn in 0..24 {
-            state = next(state);
-            let mut chosen = (state >> 8) & within;
-            state = next(state);
-            let candidates = (state >> 8) & within;
-            state = next(state);
-            if turn % 2 == 0 {
-                chosen = chosen & (state >> 8);
-            }
-            found = found.and(compared(k, table, agreed, chosen, candidates));
+            let chosen = some_marks(&mut chance, within);
+            let candidates = some_marks(&mut chance, within);
+            let some = some_marks(&mut chance, within);
+            let asked = Asked {
+                agreed,
+                k,
+                chosen: if turn % 2 == 0 { chosen & some } else { chosen },
+                candidates,
+            };
+            total = total + compared(table, asked)?;
         }
     }
-    found
+    Some(total)
 }

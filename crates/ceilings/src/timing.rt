@@ -1,34 +1,14 @@
 // How long the rules take on 128 marks.
-use crate::sheets::next;
 use marks::set::MarkSet;
 use rule::degree::DegreeRule;
 use rule::pair::PairRule;
 use rule::rules::CeilingRule;
-use sheet::entry::Entry;
 use std::io;
 use std::time::Instant;
 use tables::bits::BitTable;
-
-// 128 marks, of which the first so many all agree, and each other pair in some tenths of all cases.
-fn table(tenths: u32, chosen: u32) -> Option<BitTable> {
-    let mut words = [0; 512];
-    let mut state = tenths;
-    match Entry::begin(&mut words, 128) {
-        Ok(mut entry) => {
-            // a mark with itself is refused, and nothing is entered
-            for i in 0..128 {
-                for j in i..128 {
-                    state = next(state);
-                    if j < chosen || (state >> 16) % 10 < tenths {
-                        let _ = entry.enter(i, j);
-                    }
-                }
-            }
-            Some(BitTable::copy_of(&entry.seal()))
-        }
-        Err(_) => None,
-    }
-}
+use trials::agreed::Agreed;
+use trials::chance::Chance;
+use trials::sheets::table;
 
 // Asks one rule often, and prints how long it took.
 fn time<R: CeilingRule>(
@@ -38,7 +18,7 @@ fn time<R: CeilingRule>(
     table: &BitTable,
     chosen: MarkSet,
 ) -> io::Result<()> {
-    let all = MarkSet::from_words([0xFFFF_FFFF, 0xFFFF_FFFF, 0xFFFF_FFFF, 0xFFFF_FFFF]);
+    let all = MarkSet::below(128);
     let start = Instant::now(rt)?;
     let mut sum = 0u32;
     for _ in 0..10_000 {
@@ -49,14 +29,13 @@ fn time<R: CeilingRule>(
     println!(rt; "    {name} {number}: {took} nanoseconds")
 }
 
+// 128 marks, of which the first so many all agree, and each other pair in some tenths of all cases.
 pub fn times(rt: &HostRuntime) -> io::Result<()> {
     for tenths in [1u32, 5, 9] {
+        let agreed = Agreed::<128>::by_chance(128, tenths, &mut Chance::from_seed(tenths));
         for count in [2u32, 4, 8, 16, 32] {
-            if let Some(table) = table(tenths, count) {
-                let mut chosen = MarkSet::empty();
-                for mark in 0..count {
-                    chosen = chosen.with(mark);
-                }
+            if let Ok(table) = table(128, |i, j| j < count || agreed.has(i, j)) {
+                let chosen = MarkSet::below(count);
                 println!(rt; "{tenths} tenths, {count} chosen marks:")?;
                 time(rt, "degree", &DegreeRule, &table, chosen)?;
                 time(rt, "pair", &PairRule, &table, chosen)?;

@@ -1,62 +1,44 @@
 // Co-pruning by a plain listing: every agreement is asked for, and rounds are repeated until nothing changes.
+use trials::agreed::Agreed;
 
-// Which of at most twelve marks agree.
-#[derive(Clone, Copy)]
-pub struct Listing {
-    pub agrees: [[bool; 12]; 12],
+// How many marks agree with i.
+pub fn degree(all: &Agreed<12>, i: u32) -> usize {
+    (0..12).filter(|j| all.has(i, *j)).count()
 }
 
-impl Listing {
-    pub fn empty() -> Listing {
-        Listing {
-            agrees: [[false; 12]; 12],
+// How many marks agree with both i and j.
+fn shared(all: &Agreed<12>, i: u32, j: u32) -> usize {
+    (0..12).filter(|m| all.has(i, *m) && all.has(j, *m)).count()
+}
+
+// How many marks must agree with each end of an agreement, and how many with both, for it to stay.
+#[derive(Clone, Copy)]
+pub struct Bounds {
+    pub ends: usize,
+    pub shared: usize,
+}
+
+impl Bounds {
+    pub fn new(k: u32, floor: u32) -> Bounds {
+        let more = (floor as usize).saturating_add(1);
+        Bounds {
+            ends: more.saturating_sub(k as usize),
+            shared: more.saturating_sub((k as usize).saturating_mul(2)),
         }
     }
 
-    // Sets the agreement of two different marks.
-    pub fn set(&mut self, i: usize, j: usize, to: bool) {
-        if i < 12 && j < 12 && i != j {
-            self.agrees[i][j] = to;
-            self.agrees[j][i] = to;
-        }
-    }
-
-    pub fn has(&self, i: usize, j: usize) -> bool {
-        i < 12 && j < 12 && self.agrees[i][j]
-    }
-
-    // How many marks agree with i.
-    pub fn degree(&self, i: usize) -> usize {
-        let mut count = 0usize;
-        for j in 0..12 {
-            if self.has(i, j) {
-                count = count.saturating_add(1);
-            }
-        }
-        count
-    }
-
-    // How many marks agree with both i and j.
-    fn shared(&self, i: usize, j: usize) -> usize {
-        let mut count = 0usize;
-        for m in 0..12 {
-            if self.has(i, m) && self.has(j, m) {
-                count = count.saturating_add(1);
-            }
-        }
-        count
+    fn keep(self, all: &Agreed<12>, i: u32, j: u32) -> bool {
+        degree(all, i) >= self.ends
+            && degree(all, j) >= self.ends
+            && shared(all, i, j) >= self.shared
     }
 
     // What is left after one round, in which all agreements that fail are struck at once.
-    fn round(&self, ends: usize, shared: usize) -> Listing {
-        let mut next = *self;
+    fn round(self, all: &Agreed<12>) -> Agreed<12> {
+        let mut next = *all;
         for i in 0..12 {
             for j in 0..12 {
-                if self.has(i, j)
-                    && (self.degree(i) < ends
-                        || self.degree(j) < ends
-                        || self.shared(i, j) < shared)
-                {
+                if all.has(i, j) && !self.keep(all, i, j) {
                     next.set(i, j, false);
                 }
             }
@@ -65,11 +47,7 @@ impl Listing {
     }
 
     // What is left when nothing changes any more: 66 agreements take at most 66 rounds.
-    pub fn pruned(&self, ends: usize, shared: usize) -> Listing {
-        let mut now = *self;
-        for _ in 0..66 {
-            now = now.round(ends, shared);
-        }
-        now
+    pub fn prune(self, all: &Agreed<12>) -> Agreed<12> {
+        (0..66).fold(*all, |now, _| self.round(&now))
     }
 }

@@ -2,6 +2,8 @@
 // With an argument it prints how long co-pruning takes on 128 marks.
 #![tactic(auto)]
 
+mod calls;
+mod left;
 mod listing;
 mod sheets;
 mod timing;
@@ -13,9 +15,9 @@ fn main(rt: HostRuntime) -> io::Result<()> {
         return timing::times(&rt);
     }
     sheets::worked(&rt)?;
-    sheets::refusals(&rt)?;
-    sheets::copies(&rt)?;
-    sheets::strikes(&rt)?;
+    calls::refusals(&rt)?;
+    calls::copies(&rt)?;
+    calls::strikes(&rt)?;
     for marks in 0..13 {
         sheets::generated(&rt, marks)?;
     }

@@ -1,36 +1,18 @@
 // How long co-pruning takes on 128 marks.
-use crate::sheets::next;
 use coprune::look::Pair;
 use coprune::prune::co_prune;
 use marks::set::MarkSet;
-use sheet::entry::Entry;
 use std::io;
 use std::time::Instant;
-use tables::bits::BitTable;
+use trials::agreed::Agreed;
+use trials::chance::Chance;
+use trials::sheets::table;
 
-// A table of 128 marks, of which each pair agrees in some tenths of all cases.
-fn table(tenths: u32) -> Option<BitTable> {
-    let mut words = [0; 512];
-    let mut state = tenths;
-    match Entry::begin(&mut words, 128) {
-        Ok(mut entry) => {
-            for i in 0..128 {
-                for j in i..128 {
-                    state = next(state);
-                    if (state >> 16) % 10 < tenths {
-                        let _ = entry.enter(i, j);
-                    }
-                }
-            }
-            Some(BitTable::copy_of(&entry.seal()))
-        }
-        Err(_) => None,
-    }
-}
-
-// Co-prunes a table and prints how long it took and how many marks are left.
+// Co-prunes a table of 128 marks, of which each pair agrees in some tenths of all cases, and prints how long it took and
+// how many marks are left.
 fn time(rt: &HostRuntime, tenths: u32, k: u32, floor: u32) -> io::Result<()> {
-    if let Some(mut table) = table(tenths) {
+    let all = Agreed::<128>::by_chance(128, tenths, &mut Chance::from_seed(tenths));
+    if let Ok(mut table) = table(128, |i, j| all.has(i, j)) {
         let mut left = MarkSet::empty();
         let mut marks = [0; 128];
         let mut pairs = [Pair { a: 0, b: 0 }; 8128];

@@ -1,0 +1,38 @@
+// Sheets and tables of the pairs that agree.
+ghost use Rattle.std.specs.Prelude.{◌≡◌, IfOk};
+ghost use Rattle.tables.specs.Meanings.{bit_meaning};
+
+use sheet::entry::{Entry, EntryRefusal, Sealed};
+use tables::bits::BitTable;
+
+// A sheet of so many marks, in words that the caller lends.
+pub fn sheet<'a, F: Fn(u32, u32) -> bool>(
+    words: &'a mut [u32],
+    marks: u32,
+    agrees: F,
+) -> Result<Sealed<'a>, EntryRefusal>
+    requires { F.IsAlwaysCallable agrees }
+    ensures { IfOk result (λ s. s.marks ≡ marks) }
+{
+    let mut entry = match Entry::begin(words, marks) {
+        Ok(entry) => entry,
+        Err(not_begun) => return Err(not_begun.refusal),
+    };
+    for i in 0..marks {
+        for j in i + 1..marks {
+            if agrees(i, j) {
+                entry.enter(i, j)?;
+            }
+        }
+    }
+    Ok(entry.seal())
+}
+
+// A table of so many marks.
+pub fn table<F: Fn(u32, u32) -> bool>(marks: u32, agrees: F) -> Result<BitTable, EntryRefusal>
+    requires { F.IsAlwaysCallable agrees }
+    ensures { IfOk result (λ t. (bit_meaning t).marks ≡ marks) }
+{
+    let mut words = [0; 512];
+    Ok(BitTable::copy_of(&sheet(&mut words, marks, agrees)?))
+}
