@@ -1,5 +1,6 @@
 -- Striking offenders one after another, until none is left.
 use Rattle.std.proofs.Common.{◌≡◌, ℕ, ◌+◌, ◌*◌, ◌<◌, ◌≤◌, Bool, true, false, ◌&&◌, ◌||◌, ltb, ◌⊎◌, ap, ◌∙◌, inl, inr, mul-le-mul_right, add-mul, one-mul, arith}
+use Rattle.std.proofs.Math.Bool.{and_comm}
 use Rattle.std.proofs.lemmas.Bool.{or_cases, or_parts, ltb-true, ltb-false, and_parts}
 use Rattle.std.proofs.lemmas.Bool.Decides.{nat_tests}
 use Rattle.plex.specs.Sets.{Agreement, card, struck, ◌∩◌, TwoWay, Among}
@@ -31,13 +32,10 @@ offends_from n a b g i j e =
 
 pub offends_both_ways : (n a b : ℕ) (g : Agreement) (i j : ℕ) → offends n a b g i j ≡ offends n a b g j i
 offends_both_ways n a b g i j =
-    let e = card_ext n (g i ∩ g j) (g j ∩ g i) (λ m _. and_turned (g i m) (g j m)) in
+    let e = card_ext n (g i ∩ g j) (g j ∩ g i) (λ m _. and_comm (g i m) (g j m)) in
     ap (λ c. ltb (card n (g i)) a || (ltb (card n (g j)) a || ltb c b)) e
     ∙ or_turned (ltb (card n (g i)) a) (ltb (card n (g j)) a) (ltb (card n (g j ∩ g i)) b)
   where
-    and_turned : (x y : Bool) → (x && y) ≡ (y && x)
-    and_turned x y = grind arith
-
     or_turned : (x y z : Bool) → (x || (y || z)) ≡ (y || (x || z))
     or_turned x y z = grind arith
 

@@ -1,5 +1,6 @@
 -- Open branches: how many there can be, what a larger group changes, the steps that they can take.
 use Rattle.std.proofs.Common.{◌≡◌, ℕ, zero, suc, ◌+◌, ◌*◌, ◌^◌, ◌≤◌, true, false, List, [], ◌∷◌, length, refl, ap, inl, inr, pow-suc, one-add, arith}
+use Rattle.std.proofs.lemmas.Bool.{false≢true}
 use Rattle.plex.specs.Sets.{Set, Agreement, TwoWay, NoSelf, card, ◌∩◌, Kplex, Within}
 use Rattle.plex.proofs.Count.{card_le, card_beyond, heredity}
 use Rattle.ceiling.specs.Rules.{Number, reply, Between, Lawful}
@@ -97,7 +98,4 @@ none_left n (b ∷ bs) h = let z : ⊥ = omega (arith, steps_for_some (card n b.
 
 pub open_none : (bs : List Branch) → none_open bs ≡ true → bs ≡ []
 open_none [] h = refl
-open_none (b ∷ bs) h = absurd (not_open h)
-  where
-    not_open : false ≡ true → ⊥
-    not_open e = grind arith
+open_none (b ∷ bs) h = absurd (false≢true h)
