@@ -1,5 +1,5 @@
 -- What a file's sheet reads from it.
-use Rattle.std.proofs.Common.{◌≡◌, ℕ, ◌<◌, ◌≤◌, true, List, get_or, ap, ◌∙◌, ap₂, arith}
+use Rattle.std.proofs.Common.{◌≡◌, ℕ, ◌<◌, ◌≤◌, true, List, get_or, ap, ◌∙◌, ap₂, arith, Some, Option}
 use Rattle.std.proofs.lemmas.Bool.{false≢true}
 use Rattle.plex.specs.Meaning.{agree_by}
 use Rattle.plex.specs.Distance.{Sighting, sighted_alike}
@@ -9,8 +9,6 @@ use Rattle.fileword.specs.Laws.{sighting_at}
 use Rattle.fileword.specs.declared.files.Form.{Form}
 use Rattle.fileword.specs.declared.files.Form.TheVariants.{Pairs, Measured}
 use Rattle.fileword.specs.declared.files.Summary.{Summary}
-use Rattle.fileword.specs.declared.files.Wanted.{Wanted}
-use Rattle.fileword.specs.declared.files.Wanted.TheVariants.{OnlyPairs, OnlyMeasured}
 use Rattle.fileword.proofs.Verdict.{spotless_from_good}
 use Rattle.fileword.proofs.ReadBack.{tolerance_back, sightings_back}
 use Rattle.sheet.proofs.Entering.{agree_same}
@@ -30,11 +28,11 @@ measured_alike n k t ss ws f i j hi hj d =
 
 module _ (ws : List ℕ) where
   -- a good file's sheet has the file's marks
-  marks_read : (wanted : Wanted) (f : Summary) → Good ws f → takes wanted f.form ≡ true → sheet_marks ws ≡ f.marks
+  marks_read : (wanted : Option Form) (f : Summary) → Good ws f → takes wanted f.form ≡ true → sheet_marks ws ≡ f.marks
   marks_read wanted f g t =
       let e = ap (λ (s : Summary). s.marks) (spotless_from_good wanted ws f g t).1 in omega (arith, g.few)
 
-  read_pairs : (form : Form) (n k : ℕ) → takes OnlyPairs form ≡ true → n ≤ 128 → 1 ≤ k → k ≤ 16 → Written form n k ws → sheet_marks ws ≡ n →
+  read_pairs : (form : Form) (n k : ℕ) → takes (Some Pairs) form ≡ true → n ≤ 128 → 1 ≤ k → k ≤ 16 → Written form n k ws → sheet_marks ws ≡ n →
       (s : PairSheet) → s.words.now ≡ ws → ReadsPairs ws s
   read_pairs Pairs n k t few low high w m s e = record {
     words = e;
@@ -50,10 +48,10 @@ module _ (ws : List ℕ) where
   }
   read_pairs Measured n k t few low high w m s e = absurd (false≢true t)
 
-  pub pairs_read : (f : Summary) → Good ws f → takes OnlyPairs f.form ≡ true → (s : PairSheet) → s.words.now ≡ ws → ReadsPairs ws s
-  pairs_read f g t = read_pairs f.form f.marks f.k t g.few g.low g.high g.written (marks_read OnlyPairs f g t)
+  pub pairs_read : (f : Summary) → Good ws f → takes (Some Pairs) f.form ≡ true → (s : PairSheet) → s.words.now ≡ ws → ReadsPairs ws s
+  pairs_read f g t = read_pairs f.form f.marks f.k t g.few g.low g.high g.written (marks_read (Some Pairs) f g t)
 
-  read_measured : (form : Form) (n k : ℕ) → takes OnlyMeasured form ≡ true → n ≤ 128 → 1 ≤ k → k ≤ 16 → Written form n k ws → sheet_marks ws ≡ n →
+  read_measured : (form : Form) (n k : ℕ) → takes (Some Measured) form ≡ true → n ≤ 128 → 1 ≤ k → k ≤ 16 → Written form n k ws → sheet_marks ws ≡ n →
       (s : MeasuredSheet) → s.words.now ≡ ws → ReadsMeasured ws s
   read_measured Measured n k t few low high w m s e = record {
     words = e;
@@ -72,5 +70,5 @@ module _ (ws : List ℕ) where
   }
   read_measured Pairs n k t few low high w m s e = absurd (false≢true t)
 
-  pub measured_read : (f : Summary) → Good ws f → takes OnlyMeasured f.form ≡ true → (s : MeasuredSheet) → s.words.now ≡ ws → ReadsMeasured ws s
-  measured_read f g t = read_measured f.form f.marks f.k t g.few g.low g.high g.written (marks_read OnlyMeasured f g t)
+  pub measured_read : (f : Summary) → Good ws f → takes (Some Measured) f.form ≡ true → (s : MeasuredSheet) → s.words.now ≡ ws → ReadsMeasured ws s
+  measured_read f g t = read_measured f.form f.marks f.k t g.few g.low g.high g.written (marks_read (Some Measured) f g t)

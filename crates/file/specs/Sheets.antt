@@ -1,5 +1,5 @@
 -- What the sheets mean that read a file where its words stand. Assumes nothing.
-use Rattle.std.specs.Prelude.{◌≡◌, ℕ, ◌≤◌, min, true, List, is_ok, Ok, Err, Result, slice_index_or}
+use Rattle.std.specs.Prelude.{◌≡◌, ℕ, ◌≤◌, min, true, List, is_ok, Ok, Err, Result, slice_index_or, Some}
 use Rattle.std.proofs.Math.Nat.{min-le_right}
 use Rattle.plex.specs.Sets.{Agreement}
 use Rattle.plex.specs.Meaning.{Meaning, agree_by, meaning_by}
@@ -10,7 +10,6 @@ use Rattle.fileword.specs.Faults.{at, marks_said, Refused}
 use Rattle.fileword.specs.Laws.{sighting_at}
 use Rattle.fileword.specs.declared.files.Form.TheVariants.{Pairs, Measured}
 use Rattle.fileword.specs.declared.files.FileRefusal.{FileRefusal}
-use Rattle.fileword.specs.declared.files.Wanted.TheVariants.{OnlyPairs, OnlyMeasured}
 use Rattle.pairing.specs.Naming.{names}
 use Rattle.file.specs.declared.pairs.PairSheet.{PairSheet}
 use Rattle.file.specs.declared.measured.MeasuredSheet.{MeasuredSheet}
@@ -45,7 +44,7 @@ pub record ReadsPairs (ws : List ℕ) (s : PairSheet) : Type 0 where
 
 abbrev pub PairsRead : List ℕ → Result PairSheet FileRefusal → Type 0
 PairsRead ws (Ok s) = ReadsPairs ws s
-PairsRead ws (Err e) = Refused OnlyPairs ws e
+PairsRead ws (Err e) = Refused (Some Pairs) ws e
 
 -- every good pair file is read
 abbrev pub PairsAccepted : List ℕ → Result PairSheet FileRefusal → Type 0
@@ -68,7 +67,7 @@ pub record ReadsMeasured (ws : List ℕ) (s : MeasuredSheet) : Type 0 where
 
 abbrev pub MeasuredRead : List ℕ → Result MeasuredSheet FileRefusal → Type 0
 MeasuredRead ws (Ok s) = ReadsMeasured ws s
-MeasuredRead ws (Err e) = Refused OnlyMeasured ws e
+MeasuredRead ws (Err e) = Refused (Some Measured) ws e
 
 -- every good measured file is read
 abbrev pub MeasuredAccepted : List ℕ → Result MeasuredSheet FileRefusal → Type 0

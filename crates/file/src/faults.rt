@@ -5,7 +5,7 @@ ghost use Rattle.fileword.specs.Layout.{kind};
 ghost use Rattle.file.specs.Finding.{Finds, FindsAt};
 
 use crate::words::{form_said, marks_said, word_at};
-use fileword::files::{Fault, FileRefusal, Form, Wanted};
+use fileword::files::{Fault, FileRefusal, Form};
 use fileword::layout::{Kind, k_of, load_of, lower_of, marks_of, upper_of};
 
 fn is_end(word: u32) -> bool
@@ -14,13 +14,13 @@ fn is_end(word: u32) -> bool
     Kind::of(word) == Some(Kind::End)
 }
 
-// Whether a word of this kind may stand after the head, for a reader who wants this form.
-fn may_begin(wanted: Wanted, word: u32) -> bool
+// Whether a word may stand after the head, for a reader who wants this form, or either if it is none.
+fn may_begin(wanted: Option<Form>, word: u32) -> bool
     ensures { result ≡ may_begin wanted (kind word) }
 {
     match Kind::of(word) {
-        Some(Kind::Pair | Kind::End) => wanted != Wanted::OnlyMeasured,
-        Some(Kind::Tolerance) => wanted != Wanted::OnlyPairs,
+        Some(Kind::Pair | Kind::End) => wanted != Some(Form::Measured),
+        Some(Kind::Tolerance) => wanted != Some(Form::Pairs),
         _ => false,
     }
 }
@@ -28,7 +28,7 @@ fn may_begin(wanted: Wanted, word: u32) -> bool
 // The kinds of a mark's four words, in turn.
 const KINDS_OF_A_MARK: [Kind; 4] = [Kind::PlannedXy, Kind::PlannedZ, Kind::SeenXy, Kind::SeenZ];
 
-// Whether a word of this kind may stand at a place of a measured file, from place 2 on.
+// Whether a word may stand at a place of a measured file, from place 2 on.
 fn stands_in_measured(marks: u32, place: usize, word: u32) -> bool
     requires { 1 < place }
     ensures { result ≡ in_measured marks place (kind word) }
@@ -41,24 +41,11 @@ fn stands_in_measured(marks: u32, place: usize, word: u32) -> bool
     }
 }
 
-// Whether a word of this kind may stand behind one of the kind before in a pair file.
+// Whether a word may stand behind the word before it in a pair file.
 fn stands_in_pairs(before: u32, word: u32) -> bool
     ensures { result ≡ in_pairs (kind before) (kind word) }
 {
     !is_end(before) && matches!(Kind::of(word), Some(Kind::Pair | Kind::End))
-}
-
-// Whether the kind of the word at a place may stand there.
-fn may_stand(words: &[u32], wanted: Wanted, place: usize) -> bool
-    ensures { result ≡ may_stand wanted words.now place }
-{
-    let word = word_at(words, place);
-    match (place, form_said(words)) {
-        (0, _) => Kind::of(word) == Some(Kind::Head),
-        (1, _) => may_begin(wanted, word),
-        (_, Form::Measured) => stands_in_measured(marks_said(words), place, word),
-        (_, Form::Pairs) => stands_in_pairs(word_at(words, place - 1), word),
-    }
 }
 
 fn spare_set(word: u32) -> bool
@@ -103,39 +90,62 @@ fn end_load(words: &[u32], place: usize) -> usize
     }
 }
 
-// The first fault of the word at a place, if it has any.
-fn fault_at(words: &[u32], wanted: Wanted, place: usize) -> Option<Fault>
-    requires { place < length words.now }
-    ensures { Finds wanted words.now place result }
-{
-    let word = word_at(words, place);
-    if !may_stand(words, wanted, place) {
-        return Some(Fault::WrongKind);
-    }
-    if spare_set(word) {
-        return Some(Fault::SpareBit);
-    }
-    if place == 0 && !in_range(word) {
-        return Some(Fault::OutOfRange);
-    }
-    let before = word_at(words, place.saturating_sub(1));
-    match Kind::of(word) {
-        Some(Kind::Pair) if !pair_fits(marks_said(words), place, before, word) => {
-            Some(Fault::WrongPair)
-        }
-        Some(Kind::End) if load_of(word) as usize != end_load(words, place) => {
-            Some(Fault::WrongEnd)
-        }
-        _ => None,
-    }
+// A file's words, and the form that their reader wants, or either if it is none.
+#[derive(Clone, Copy)]
+pub(crate) struct Reading<'a> {
+    pub(crate) words: &'a [u32],
+    pub(crate) wanted: Option<Form>,
 }
 
-// The refusal for the word at a place, if it has a fault.
-pub(crate) fn refusal_at(words: &[u32], wanted: Wanted, place: usize) -> Option<FileRefusal>
-    requires { place < length words.now }
-    ensures { FindsAt wanted words.now place result }
-{
-    fault_at(words, wanted, place).map(|fault| FileRefusal { fault, place })
+impl Reading<'_> {
+    // Whether the kind of the word at a place may stand there.
+    fn may_stand(&self, place: usize) -> bool
+        ensures { result ≡ may_stand self.now.wanted self.now.words.now place }
+    {
+        let word = word_at(self.words, place);
+        match (place, form_said(self.words)) {
+            (0, _) => Kind::of(word) == Some(Kind::Head),
+            (1, _) => may_begin(self.wanted, word),
+            (_, Form::Measured) => stands_in_measured(marks_said(self.words), place, word),
+            (_, Form::Pairs) => stands_in_pairs(word_at(self.words, place - 1), word),
+        }
+    }
+
+    // The first fault of the word at a place, if it has any.
+    fn fault_at(&self, place: usize) -> Option<Fault>
+        requires { place < length self.now.words.now }
+        ensures { Finds self.now.wanted self.now.words.now place result }
+    {
+        let word = word_at(self.words, place);
+        if !self.may_stand(place) {
+            return Some(Fault::WrongKind);
+        }
+        if spare_set(word) {
+            return Some(Fault::SpareBit);
+        }
+        if place == 0 && !in_range(word) {
+            return Some(Fault::OutOfRange);
+        }
+        let before = word_at(self.words, place.saturating_sub(1));
+        match Kind::of(word) {
+            Some(Kind::Pair) if !pair_fits(marks_said(self.words), place, before, word) => {
+                Some(Fault::WrongPair)
+            }
+            Some(Kind::End) if load_of(word) as usize != end_load(self.words, place) => {
+                Some(Fault::WrongEnd)
+            }
+            _ => None,
+        }
+    }
+
+    // The refusal for the word at a place, if it has a fault.
+    pub(crate) fn refusal_at(&self, place: usize) -> Option<FileRefusal>
+        requires { place < length self.now.words.now }
+        ensures { FindsAt self.now.wanted self.now.words.now place result }
+    {
+        self.fault_at(place)
+            .map(|fault| FileRefusal { fault, place })
+    }
 }
 
 // Whether no word is an end.

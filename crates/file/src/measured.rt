@@ -6,11 +6,11 @@ ghost use Rattle.fileword.specs.Layout.{point_of};
 ghost use Rattle.file.specs.Points.{meant};
 ghost use Rattle.file.specs.Sheets.{alike, measured_meaning, MeasuredRead, MeasuredAccepted};
 
-use crate::check::judge;
 use crate::dome::Point;
 use crate::dome::distance::is_close;
+use crate::faults::Reading;
 use crate::words::{sheet_marks, word_at};
-use fileword::files::{FileRefusal, Wanted};
+use fileword::files::{FileRefusal, Form};
 use fileword::layout::load_of;
 use sheet::kinds::Sheet;
 use sheet::two::two_marks;
@@ -26,7 +26,8 @@ impl<'a> MeasuredSheet<'a> {
         ensures reads { MeasuredRead words.now result }
         ensures accepts { MeasuredAccepted words.now result }
     {
-        judge(words, Wanted::OnlyMeasured)?;
+        let wanted = Some(Form::Measured);
+        Reading { words, wanted }.judge()?;
         Ok(MeasuredSheet { words })
     }
 

@@ -3,14 +3,15 @@ ghost use Rattle.std.specs.Prelude.{◌≡◌, ◌<◌};
 ghost use Rattle.pairing.specs.Naming.{names};
 ghost use Rattle.file.specs.Sheets.{pair_meaning, PairsRead, PairsAccepted};
 
-use crate::check::judge;
+use crate::faults::Reading;
 use crate::words::sheet_marks;
-use fileword::files::{FileRefusal, Wanted};
+use fileword::files::{FileRefusal, Form};
 use fileword::layout::word_of_pair;
 use pairing::row_among;
 use sheet::kinds::Sheet;
 use sheet::two::two_marks;
 
+// Like `MeasuredSheet` but for which marks agree; a trait of that, with meaning and proofs, would be no plainer.
 #[derive(Clone, Copy)]
 pub struct PairSheet<'a> {
     words: &'a [u32],
@@ -22,8 +23,8 @@ impl<'a> PairSheet<'a> {
         ensures reads { PairsRead words.now result }
         ensures accepts { PairsAccepted words.now result }
     {
-        // one sheet for both forms would share no more than this line
-        judge(words, Wanted::OnlyPairs)?;
+        let wanted = Some(Form::Pairs);
+        Reading { words, wanted }.judge()?;
         Ok(PairSheet { words })
     }
 

@@ -1,15 +1,15 @@
 -- Words without a fault, said of each place.
-use Rattle.std.proofs.Common.{◌≡◌, ℕ, zero, suc, ◌-◌, ◌<◌, Bool, true, false, not, ◌&&◌, eqb, ltb, List, [], ◌∷◌, length, refl, inl, inr, arith}
+use Rattle.std.proofs.Common.{◌≡◌, ℕ, zero, suc, ◌-◌, ◌<◌, Bool, true, false, not, ◌&&◌, eqb, ltb, List, [], ◌∷◌, length, refl, inl, inr, arith, Option}
 use Rattle.std.proofs.lemmas.Bool.{true≢false, cases_lt, cases_eq, and_left, and_right, not_from_true, eq-eqb, ne_eqb, eqb-true, le-ltb}
 use Rattle.std.proofs.lemmas.Bool.Decides.{nat_tests}
 use Rattle.fileword.specs.Layout.{kind, load}
 use Rattle.fileword.specs.Faults.{at, marks_said, may_stand, spare_set, in_range, pair_fits, end_load, lacks_end}
 use Rattle.fileword.specs.Laws.{Spotless}
-use Rattle.fileword.specs.declared.files.Wanted.{Wanted}
+use Rattle.fileword.specs.declared.files.Form.{Form}
 use Rattle.fileword.specs.declared.files.Fault.TheVariants.{WrongKind, SpareBit, OutOfRange, WrongPair, WrongEnd, NoEnd}
 
 -- each word is as it should be where it stands, and there is an end
-pub record Clean (wanted : Wanted) (ws : List ℕ) : Type 0 where
+pub record Clean (wanted : Option Form) (ws : List ℕ) : Type 0 where
   pub stands : (p : ℕ) → p < length ws → may_stand wanted ws p ≡ true
   pub spares : (p : ℕ) → p < length ws → spare_set (at ws p) ≡ false
   pub range : 0 < length ws → in_range (at ws 0) ≡ true
@@ -26,7 +26,7 @@ within_not p n b l h = grind (arith, nat_tests)
 within_at : (p n x y : ℕ) (b : Bool) → p < n → x ≡ y → (ltb p n && (eqb x y && not b)) ≡ false → b ≡ true
 within_at p n x y b l e h = grind (arith, nat_tests)
 
-pub clean_from_spotless : (wanted : Wanted) (ws : List ℕ) → Spotless wanted ws → Clean wanted ws
+pub clean_from_spotless : (wanted : Option Form) (ws : List ℕ) → Spotless wanted ws → Clean wanted ws
 clean_from_spotless wanted ws s = record {
   stands = λ p l. within_not p (length ws) (may_stand wanted ws p) l (s p WrongKind);
   spares = λ p l. within p (length ws) (spare_set (at ws p)) l (s p SpareBit);
@@ -52,7 +52,7 @@ outside_at p n x y b h =
       | inr e ↦ and_left (eqb x y) (not b) (ne_eqb x y e)
     ])
 
-pub spotless_from_clean : (wanted : Wanted) (ws : List ℕ) → Clean wanted ws → Spotless wanted ws
+pub spotless_from_clean : (wanted : Option Form) (ws : List ℕ) → Clean wanted ws → Spotless wanted ws
 spotless_from_clean wanted ws c p WrongKind =
     outside p (length ws) (not (may_stand wanted ws p)) (λ l. not_from_true (may_stand wanted ws p) (c.stands p l))
 spotless_from_clean wanted ws c p SpareBit = outside p (length ws) (spare_set (at ws p)) (c.spares p)

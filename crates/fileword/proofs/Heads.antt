@@ -1,10 +1,10 @@
 -- The head: one that is written passes, and what clean words begin with.
-use Rattle.std.proofs.Common.{◌≡◌, ℕ, ◌/◌, ◌^◌, ◌<◌, ◌≤◌, true, false, List, length, ap, ◌∙◌, ap₂, inl, inr, arith}
+use Rattle.std.proofs.Common.{◌≡◌, ℕ, ◌/◌, ◌^◌, ◌<◌, ◌≤◌, true, false, List, length, ap, ◌∙◌, ap₂, inl, inr, arith, Option}
 use Rattle.std.proofs.lemmas.Bool.{eqb-true, cases_lt}
 use Rattle.fileword.specs.Layout.{kind, load, upper, head_marks, head_k, head_word}
 use Rattle.fileword.specs.Faults.{at, marks_said, k_said, may_begin, spare_set, in_range}
 use Rattle.fileword.specs.declared.files.Summary.{Summary}
-use Rattle.fileword.specs.declared.files.Wanted.{Wanted}
+use Rattle.fileword.specs.declared.files.Form.{Form}
 use Rattle.fileword.proofs.Words.{kind_head, load_head, marks_of_head, k_of_head, head_back}
 use Rattle.fileword.proofs.WordTests.{no_spare_head, spare_clear, ranges, ranges_from}
 use Rattle.fileword.proofs.Clean.{Clean, end_place}
@@ -26,7 +26,7 @@ head_in_range n k few low high =
     let f = k_of_head n k (omega arith) (omega arith) in
     ranges_from (head_marks (head_word n k)) (head_k (head_word n k)) (omega arith) (omega arith) (omega arith)
 
-module _ (wanted : Wanted) (ws : List ℕ) (c : Clean wanted ws) where
+module _ (wanted : Option Form) (ws : List ℕ) (c : Clean wanted ws) where
   pub some_words : 0 < length ws
   some_words = let q = end_place ws c.ended in omega (arith, q.1)
 

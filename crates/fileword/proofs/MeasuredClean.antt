@@ -1,5 +1,5 @@
 -- The words of a measured file are clean.
-use Rattle.std.proofs.Common.{◌≡◌, ℕ, zero, suc, ◌+◌, ◌-◌, ◌*◌, ◌/◌, ◌%◌, ◌^◌, ◌<◌, ◌≤◌, true, false, ◌⊎◌, List, length, get_or, sym, refl, ap, ◌∙◌, inl, inr, arith}
+use Rattle.std.proofs.Common.{◌≡◌, ℕ, zero, suc, ◌+◌, ◌-◌, ◌*◌, ◌/◌, ◌%◌, ◌^◌, ◌<◌, ◌≤◌, true, false, ◌⊎◌, List, length, get_or, sym, refl, ap, ◌∙◌, inl, inr, arith, Option}
 use Rattle.std.specs.List.{AllByRecursion}
 use Rattle.std.proofs.ByRecursion.{All-get_or}
 use Rattle.std.proofs.lemmas.Bool.{cases_lt, eq-eqb, cond-true}
@@ -8,8 +8,8 @@ use Rattle.fileword.specs.Layout.{kind, load, upper, head_word, end_word, point_
 use Rattle.fileword.specs.Files.{OnDome, sighting_words, measured_file}
 use Rattle.fileword.specs.Faults.{at, marks_said, measured, may_stand, in_measured, spare_set, pair_fits, end_load, takes}
 use Rattle.fileword.specs.Laws.{said}
+use Rattle.fileword.specs.declared.files.Form.{Form}
 use Rattle.fileword.specs.declared.files.Form.TheVariants.{Pairs, Measured}
-use Rattle.fileword.specs.declared.files.Wanted.{Wanted}
 use Rattle.fileword.proofs.Words.{kind_word, load_word, kind_head, marks_of_head, k_of_head}
 use Rattle.fileword.proofs.WordTests.{measured_begins, stands_in_measured_lem, mark_stands, end_stands_measured, spare_clear}
 use Rattle.fileword.proofs.Points.{sighting_kind, sighting_spare}
@@ -110,7 +110,7 @@ module _ (n k t : ℕ) (ss : List Sighting) (few : n ≤ 128) (low : 1 ≤ k) (h
             (omega (arith, said_marks, g.0)) g.1
       ]
 
-  module _ (wanted : Wanted) (taken : takes wanted Measured ≡ true) where
+  module _ (wanted : Option Form) (taken : takes wanted Measured ≡ true) where
     stands : (p : ℕ) → p < length file → may_stand wanted file p ≡ true
     stands zero l = eq-eqb (kind (head_word n k)) 1 (kind_head n k (omega arith) (omega arith))
     stands (suc zero) l = measured_begins wanted (kind (at file 1)) taken tolerance_kind

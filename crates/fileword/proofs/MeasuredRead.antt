@@ -1,5 +1,5 @@
 -- Clean words that are measured are a measured file.
-use Rattle.std.proofs.Common.{◌≡◌, ℕ, zero, suc, ◌+◌, ◌-◌, ◌*◌, ◌/◌, ◌%◌, ◌^◌, ◌<◌, ◌≤◌, true, ◌⊎◌, List, [], ◌∷◌, ◌++◌, map, length, get_or, sym, ap, ◌∙◌, ap₂, inl, inr, arith}
+use Rattle.std.proofs.Common.{◌≡◌, ℕ, zero, suc, ◌+◌, ◌-◌, ◌*◌, ◌/◌, ◌%◌, ◌^◌, ◌<◌, ◌≤◌, true, ◌⊎◌, List, [], ◌∷◌, ◌++◌, map, length, get_or, sym, ap, ◌∙◌, ap₂, inl, inr, arith, Option}
 use Rattle.std.specs.List.{range_with_len}
 use Rattle.std.proofs.lemmas.List.{ext_get_or}
 use Rattle.std.proofs.ByRecursion.{All-from_get_or}
@@ -10,7 +10,7 @@ use Rattle.fileword.specs.Layout.{kind, load, upper, end_word}
 use Rattle.fileword.specs.Files.{OnDome, sighting_words, measured_file, MeasuredFile}
 use Rattle.fileword.specs.Faults.{at, marks_said, k_said, measured, in_measured}
 use Rattle.fileword.specs.Laws.{sighting_at}
-use Rattle.fileword.specs.declared.files.Wanted.{Wanted}
+use Rattle.fileword.specs.declared.files.Form.{Form}
 use Rattle.fileword.proofs.Words.{word_back}
 use Rattle.fileword.proofs.WordTests.{stands_in_measured_lem, mark_or_end, no_spare_z}
 use Rattle.fileword.proofs.Points.{point_on_dome, point_written}
@@ -18,7 +18,7 @@ use Rattle.fileword.proofs.Clean.{Clean, end_place}
 use Rattle.fileword.proofs.Heads.{head_written, end_after_head}
 use Rattle.fileword.proofs.MeasuredWords.{length_measured_file, measured_file_mark, measured_file_end}
 
-module _ (wanted : Wanted) (ws : List ℕ) (c : Clean wanted ws) (yes : measured ws ≡ true) where
+module _ (wanted : Option Form) (ws : List ℕ) (c : Clean wanted ws) (yes : measured ws ≡ true) where
   after : (p : ℕ) → 2 ≤ p → p < length ws →
       ((p < 2 + 4 * marks_said ws) × (kind (at ws p) ≡ 3 + (p - 2) % 4)) ⊎ ((p ≡ 2 + 4 * marks_said ws) × (kind (at ws p) ≡ 15))
   after p l m =

@@ -1,5 +1,5 @@
 -- The words of a pair file are clean.
-use Rattle.std.proofs.Common.{◌≡◌, ℕ, zero, suc, ◌-◌, ◌/◌, ◌^◌, ◌<◌, ◌≤◌, true, false, ◌⊎◌, List, length, get_or, sym, refl, ap, ◌∙◌, inl, inr, arith}
+use Rattle.std.proofs.Common.{◌≡◌, ℕ, zero, suc, ◌-◌, ◌/◌, ◌^◌, ◌<◌, ◌≤◌, true, false, ◌⊎◌, List, length, get_or, sym, refl, ap, ◌∙◌, inl, inr, arith, Option}
 use Rattle.std.specs.List.{AllByRecursion}
 use Rattle.std.proofs.ByRecursion.{All-get_or}
 use Rattle.std.proofs.lemmas.Bool.{cases_lt, ne_eqb, eq-eqb, cond-false}
@@ -7,8 +7,8 @@ use Rattle.fileword.specs.Layout.{kind, load, upper, lower, head_word}
 use Rattle.fileword.specs.Files.{Pair, NamesMarks, RisingPairs, pair_file}
 use Rattle.fileword.specs.Faults.{at, marks_said, measured, may_stand, in_pairs, spare_set, pair_fits, comes_after, end_load, takes}
 use Rattle.fileword.specs.Laws.{said}
+use Rattle.fileword.specs.declared.files.Form.{Form}
 use Rattle.fileword.specs.declared.files.Form.TheVariants.{Pairs, Measured}
-use Rattle.fileword.specs.declared.files.Wanted.{Wanted}
 use Rattle.fileword.proofs.Words.{kind_word, load_word, kind_fields, upper_fields, lower_fields, kind_head, marks_of_head, k_of_head}
 use Rattle.fileword.proofs.WordTests.{pairs_begin, stands_in_pairs_lem, pair_or_end_stands, spare_clear, pair_passes, later_passes}
 use Rattle.fileword.proofs.Rising.{rising_step, few_pairs}
@@ -115,7 +115,7 @@ module _ (n k : ℕ) (ps : List Pair) (few : n ≤ 128) (low : 1 ≤ k) (high : 
         | inr g ↦ elim e [ inl f ↦ absurd (omega arith) | inr f ↦ absurd (omega arith) ]
       ])
 
-  module _ (wanted : Wanted) (taken : takes wanted Pairs ≡ true) where
+  module _ (wanted : Option Form) (taken : takes wanted Pairs ≡ true) where
     stands : (p : ℕ) → p < length file → may_stand wanted file p ≡ true
     stands zero l = eq-eqb (kind (head_word n k)) 1 (kind_head n k (omega arith) (omega arith))
     stands (suc zero) l = pairs_begin wanted (kind (at file 1)) taken (either 0 l)

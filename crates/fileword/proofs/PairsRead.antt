@@ -1,5 +1,5 @@
 -- Clean words that are not measured are a pair file.
-use Rattle.std.proofs.Common.{◌≡◌, ℕ, zero, suc, ◌+◌, ◌-◌, ◌<◌, ◌≤◌, true, false, ◌⊎◌, List, map, length, get_or, sym, ap, ◌∙◌, inl, inr, arith}
+use Rattle.std.proofs.Common.{◌≡◌, ℕ, zero, suc, ◌+◌, ◌-◌, ◌<◌, ◌≤◌, true, false, ◌⊎◌, List, map, length, get_or, sym, ap, ◌∙◌, inl, inr, arith, Option}
 use Rattle.std.specs.List.{range_with_len}
 use Rattle.std.proofs.lemmas.List.{ext_get_or}
 use Rattle.std.proofs.ByRecursion.{All-from_get_or}
@@ -8,7 +8,7 @@ use Rattle.std.proofs.lemmas.Bool.{cases_lt, cases_eq, cond-false}
 use Rattle.fileword.specs.Layout.{kind, load, upper, lower, end_word}
 use Rattle.fileword.specs.Files.{Pair, NamesMarks, ComesBefore, pair_file, PairFile}
 use Rattle.fileword.specs.Faults.{at, marks_said, k_said, measured, in_pairs, pair_fits, comes_after}
-use Rattle.fileword.specs.declared.files.Wanted.{Wanted}
+use Rattle.fileword.specs.declared.files.Form.{Form}
 use Rattle.fileword.proofs.Words.{word_back, fields_back}
 use Rattle.fileword.proofs.WordTests.{begins_pairs, stands_in_pairs_lem, pair_or_end, names, follows, later}
 use Rattle.fileword.proofs.Rising.{rising_counted}
@@ -24,7 +24,7 @@ pair_at ws i = record { a = upper (at ws (suc i)); b = lower (at ws (suc i)) }
 abbrev pub pairs_at : List ℕ → ℕ → List Pair
 pairs_at ws m = map (pair_at ws) (range_with_len 0 m)
 
-module _ (wanted : Wanted) (ws : List ℕ) (c : Clean wanted ws) (no : measured ws ≡ false) where
+module _ (wanted : Option Form) (ws : List ℕ) (c : Clean wanted ws) (no : measured ws ≡ false) where
   after : (p : ℕ) → 2 ≤ p → p < length ws → (kind (at ws (p - 1)) ≡ 15 → ⊥) × ((kind (at ws p) ≡ 2) ⊎ (kind (at ws p) ≡ 15))
   after p l m =
       pair_or_end (kind (at ws (p - 1))) (kind (at ws p))

@@ -1,5 +1,5 @@
 -- Words without a fault are a good file, a good file has no fault, and there is one verdict.
-use Rattle.std.proofs.Common.{◌≡◌, ℕ, ◌≤◌, Bool, true, false, cond, eqb, List, Ok, Err, Result, sym, refl, ap, ◌∙◌, subst, ap₂, inl, inr}
+use Rattle.std.proofs.Common.{◌≡◌, ℕ, ◌≤◌, Bool, true, false, cond, eqb, List, Ok, Err, Result, sym, refl, ap, ◌∙◌, subst, ap₂, inl, inr, Option}
 use Rattle.std.proofs.lemmas.Bool.{both_ways, cases_order}
 use Rattle.fileword.specs.Layout.{kind}
 use Rattle.fileword.specs.Files.{Good, Written}
@@ -7,7 +7,6 @@ use Rattle.fileword.specs.Faults.{number, at, marks_said, k_said, measured, faul
 use Rattle.fileword.specs.Laws.{form_said, said, Spotless, AcceptedWhenGood}
 use Rattle.fileword.specs.declared.files.Form.{Form}
 use Rattle.fileword.specs.declared.files.Form.TheVariants.{Pairs, Measured}
-use Rattle.fileword.specs.declared.files.Wanted.{Wanted}
 use Rattle.fileword.specs.declared.files.Summary.{Summary}
 use Rattle.fileword.specs.declared.files.Fault.{Fault}
 use Rattle.fileword.specs.declared.files.Fault.TheVariants.{WrongKind, SpareBit, OutOfRange, WrongPair, WrongEnd, NoEnd}
@@ -20,22 +19,22 @@ use Rattle.fileword.proofs.PairsClean.{pair_file_clean, pair_file_said}
 use Rattle.fileword.proofs.MeasuredRead.{measured_file_read}
 use Rattle.fileword.proofs.MeasuredClean.{measured_file_clean, measured_file_said}
 
-read_as : (wanted : Wanted) (ws : List ℕ) → Clean wanted ws → (b : Bool) → measured ws ≡ b →
+read_as : (wanted : Option Form) (ws : List ℕ) → Clean wanted ws → (b : Bool) → measured ws ≡ b →
     Written (cond b Measured Pairs) (marks_said ws) (k_said ws) ws × (takes wanted (cond b Measured Pairs) ≡ true)
 read_as wanted ws c true e = (measured_file_read wanted ws c e, takes_measured wanted (kind (at ws 1)) (begins wanted ws c) e)
 read_as wanted ws c false e = (pair_file_read wanted ws c e, takes_pairs wanted (kind (at ws 1)) (begins wanted ws c) e)
 
-pub good_from_spotless : (wanted : Wanted) (ws : List ℕ) → Spotless wanted ws → Good ws (said ws) × (takes wanted (form_said ws) ≡ true)
+pub good_from_spotless : (wanted : Option Form) (ws : List ℕ) → Spotless wanted ws → Good ws (said ws) × (takes wanted (form_said ws) ≡ true)
 good_from_spotless wanted ws s =
     let c = clean_from_spotless wanted ws s in
     let h = head_range wanted ws c in
     let r = read_as wanted ws c (measured ws) refl in
     (record { few = h.0; low = h.1; high = h.2; written = r.0 }, r.1)
 
-abbrev Passes : Wanted → Summary → List ℕ → Type 0
+abbrev Passes : Option Form → Summary → List ℕ → Type 0
 Passes wanted f ws = Clean wanted ws × (f ≡ said ws)
 
-passes_as : (wanted : Wanted) (ws : List ℕ) (form : Form) (n k : ℕ) → n ≤ 128 → 1 ≤ k → k ≤ 16 → Written form n k ws →
+passes_as : (wanted : Option Form) (ws : List ℕ) (form : Form) (n k : ℕ) → n ≤ 128 → 1 ≤ k → k ≤ 16 → Written form n k ws →
     takes wanted form ≡ true →
     Passes wanted (record { form = form; marks = n; k = k }) ws
 passes_as wanted ws Pairs n k few low high (ps, w) t =
@@ -47,7 +46,7 @@ passes_as wanted ws Measured n k few low high (tolerance, ss, w) t =
       sym (measured_file_said n k tolerance ss few low high w.range w.marks w.planned w.seen),
     )
 
-pub spotless_from_good : (wanted : Wanted) (ws : List ℕ) (f : Summary) → Good ws f → takes wanted f.form ≡ true →
+pub spotless_from_good : (wanted : Option Form) (ws : List ℕ) (f : Summary) → Good ws f → takes wanted f.form ≡ true →
     Spotless wanted ws × (f ≡ said ws)
 spotless_from_good wanted ws f g t =
     let r = passes_as wanted ws f.form f.marks f.k g.few g.low g.high g.written t in
@@ -72,7 +71,7 @@ numbered_back NoEnd = refl
 pub same_fault : (f g : Fault) → number f ≡ number g → f ≡ g
 same_fault f g e = sym (numbered_back f) ∙ ap numbered e ∙ numbered_back g
 
-one_place : (wanted : Wanted) (ws : List ℕ) (r s : FileRefusal) → Refused wanted ws r → Refused wanted ws s → r.place ≡ s.place
+one_place : (wanted : Option Form) (ws : List ℕ) (r s : FileRefusal) → Refused wanted ws r → Refused wanted ws s → r.place ≡ s.place
 one_place wanted ws r s g h =
     elim (cases_order r.place s.place) [
       | inl e ↦ e
@@ -82,7 +81,7 @@ one_place wanted ws r s g h =
       ]
     ]
 
-one_fault : (wanted : Wanted) (ws : List ℕ) (r s : FileRefusal) → Refused wanted ws r → Refused wanted ws s → r.fault ≡ s.fault
+one_fault : (wanted : Option Form) (ws : List ℕ) (r s : FileRefusal) → Refused wanted ws r → Refused wanted ws s → r.fault ≡ s.fault
 one_fault wanted ws r s g h =
     let e = one_place wanted ws r s g h in
     elim (cases_order (number r.fault) (number s.fault)) [
@@ -95,16 +94,16 @@ one_fault wanted ws r s g h =
       ]
     ]
 
-pub one_refusal : (wanted : Wanted) (ws : List ℕ) (r s : FileRefusal) → Refused wanted ws r → Refused wanted ws s → r ≡ s
+pub one_refusal : (wanted : Option Form) (ws : List ℕ) (r s : FileRefusal) → Refused wanted ws r → Refused wanted ws s → r ≡ s
 one_refusal wanted ws r s g h =
     ap₂ (λ f p. record { fault = f; place = p }) (one_fault wanted ws r s g h) (one_place wanted ws r s g h)
 
 -- a good file is not refused
-pub good_or_refused : (wanted : Wanted) (ws : List ℕ) (f : Summary) (r : FileRefusal) → Judged wanted ws (Ok f) → Refused wanted ws r → ⊥
+pub good_or_refused : (wanted : Option Form) (ws : List ℕ) (f : Summary) (r : FileRefusal) → Judged wanted ws (Ok f) → Refused wanted ws r → ⊥
 good_or_refused wanted ws f r g h =
     both_ways (faulty wanted ws r.place r.fault) ((spotless_from_good wanted ws f g.0 g.1).0 r.place r.fault) h.this
 
-pub one_verdict : (wanted : Wanted) (ws : List ℕ) (u v : Result Summary FileRefusal) → Judged wanted ws u → Judged wanted ws v → u ≡ v
+pub one_verdict : (wanted : Option Form) (ws : List ℕ) (u v : Result Summary FileRefusal) → Judged wanted ws u → Judged wanted ws v → u ≡ v
 one_verdict wanted ws (Ok f) (Ok g) a b =
     ap Ok ((spotless_from_good wanted ws f a.0 a.1).1 ∙ sym (spotless_from_good wanted ws g b.0 b.1).1)
 one_verdict wanted ws (Ok f) (Err r) a b = absurd (good_or_refused wanted ws f r a b)

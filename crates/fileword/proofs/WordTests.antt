@@ -1,38 +1,37 @@
 -- What the tests of a word say of its parts, and which parts pass them.
-use Rattle.std.proofs.Common.{◌≡◌, ℕ, ◌+◌, ◌-◌, ◌*◌, ◌%◌, ◌<◌, ◌≤◌, Bool, true, false, cond, not, ◌&&◌, ◌||◌, eqb, ltb, leb, ◌⊎◌, inl, inr, arith}
+use Rattle.std.proofs.Common.{◌≡◌, ℕ, ◌+◌, ◌-◌, ◌*◌, ◌%◌, ◌<◌, ◌≤◌, Bool, true, false, cond, not, ◌&&◌, ◌||◌, eqb, ltb, leb, ◌⊎◌, inl, inr, arith, Some, None, Option}
 use Rattle.std.proofs.lemmas.Bool.{cases_lt, cases_eq}
 use Rattle.std.proofs.lemmas.Bool.Decides.{nat_tests}
 use Rattle.fileword.specs.Faults.{may_begin, in_measured, in_pairs, takes}
+use Rattle.fileword.specs.declared.files.Form.{Form}
 use Rattle.fileword.specs.declared.files.Form.TheVariants.{Pairs, Measured}
-use Rattle.fileword.specs.declared.files.Wanted.{Wanted}
-use Rattle.fileword.specs.declared.files.Wanted.TheVariants.{Either, OnlyPairs, OnlyMeasured}
 
 -- what may begin, and is not a tolerance, is a pair or the end, and the reader takes pairs
-pub begins_pairs : (wanted : Wanted) (k : ℕ) → may_begin wanted k ≡ true → eqb k 7 ≡ false → (k ≡ 2) ⊎ (k ≡ 15)
-begins_pairs Either k h e = grind (arith, nat_tests)
-begins_pairs OnlyPairs k h e = grind (arith, nat_tests)
-begins_pairs OnlyMeasured k h e = grind (arith, nat_tests)
+pub begins_pairs : (wanted : Option Form) (k : ℕ) → may_begin wanted k ≡ true → eqb k 7 ≡ false → (k ≡ 2) ⊎ (k ≡ 15)
+begins_pairs None k h e = grind (arith, nat_tests)
+begins_pairs (Some Pairs) k h e = grind (arith, nat_tests)
+begins_pairs (Some Measured) k h e = grind (arith, nat_tests)
 
-pub takes_pairs : (wanted : Wanted) (k : ℕ) → may_begin wanted k ≡ true → eqb k 7 ≡ false → takes wanted Pairs ≡ true
-takes_pairs Either k h e = grind (arith, nat_tests)
-takes_pairs OnlyPairs k h e = grind (arith, nat_tests)
-takes_pairs OnlyMeasured k h e = grind (arith, nat_tests)
+pub takes_pairs : (wanted : Option Form) (k : ℕ) → may_begin wanted k ≡ true → eqb k 7 ≡ false → takes wanted Pairs ≡ true
+takes_pairs None k h e = grind (arith, nat_tests)
+takes_pairs (Some Pairs) k h e = grind (arith, nat_tests)
+takes_pairs (Some Measured) k h e = grind (arith, nat_tests)
 
-pub takes_measured : (wanted : Wanted) (k : ℕ) → may_begin wanted k ≡ true → eqb k 7 ≡ true → takes wanted Measured ≡ true
-takes_measured Either k h e = grind (arith, nat_tests)
-takes_measured OnlyPairs k h e = grind (arith, nat_tests)
-takes_measured OnlyMeasured k h e = grind (arith, nat_tests)
+pub takes_measured : (wanted : Option Form) (k : ℕ) → may_begin wanted k ≡ true → eqb k 7 ≡ true → takes wanted Measured ≡ true
+takes_measured None k h e = grind (arith, nat_tests)
+takes_measured (Some Pairs) k h e = grind (arith, nat_tests)
+takes_measured (Some Measured) k h e = grind (arith, nat_tests)
 
 -- and back
-pub pairs_begin : (wanted : Wanted) (k : ℕ) → takes wanted Pairs ≡ true → (k ≡ 2) ⊎ (k ≡ 15) → may_begin wanted k ≡ true
-pairs_begin Either k h e = grind (arith, nat_tests)
-pairs_begin OnlyPairs k h e = grind (arith, nat_tests)
-pairs_begin OnlyMeasured k h e = grind (arith, nat_tests)
+pub pairs_begin : (wanted : Option Form) (k : ℕ) → takes wanted Pairs ≡ true → (k ≡ 2) ⊎ (k ≡ 15) → may_begin wanted k ≡ true
+pairs_begin None k h e = grind (arith, nat_tests)
+pairs_begin (Some Pairs) k h e = grind (arith, nat_tests)
+pairs_begin (Some Measured) k h e = grind (arith, nat_tests)
 
-pub measured_begins : (wanted : Wanted) (k : ℕ) → takes wanted Measured ≡ true → k ≡ 7 → may_begin wanted k ≡ true
-measured_begins Either k h e = grind (arith, nat_tests)
-measured_begins OnlyPairs k h e = grind (arith, nat_tests)
-measured_begins OnlyMeasured k h e = grind (arith, nat_tests)
+pub measured_begins : (wanted : Option Form) (k : ℕ) → takes wanted Measured ≡ true → k ≡ 7 → may_begin wanted k ≡ true
+measured_begins None k h e = grind (arith, nat_tests)
+measured_begins (Some Pairs) k h e = grind (arith, nat_tests)
+measured_begins (Some Measured) k h e = grind (arith, nat_tests)
 
 -- from place 2 on the form says what may stand
 pub stands_in_pairs_lem : (p : ℕ) (a b m x y : Bool) → 2 ≤ p → m ≡ false → cond (eqb p 0) a (cond (eqb p 1) b (cond m x y)) ≡ y

@@ -1,11 +1,9 @@
 -- What may be wrong with a word, and how a file is refused. Assumes nothing.
-use Rattle.std.specs.Prelude.{◌≡◌, ℕ, ◌+◌, ◌-◌, ◌*◌, ◌/◌, ◌%◌, ◌^◌, ◌<◌, Bool, true, false, cond, not, ◌&&◌, ◌||◌, List, [], ◌∷◌, length, Ok, Err, Result, ◌==◌, nat_le, nat_lt, slice_index}
+use Rattle.std.specs.Prelude.{◌≡◌, ℕ, ◌+◌, ◌-◌, ◌*◌, ◌/◌, ◌%◌, ◌^◌, ◌<◌, Bool, true, false, cond, not, ◌&&◌, ◌||◌, List, [], ◌∷◌, length, Ok, Err, Result, ◌==◌, nat_le, nat_lt, slice_index, Some, None, Option}
 use Rattle.fileword.specs.Layout.{kind, load, upper, lower, head_marks, head_k}
 use Rattle.fileword.specs.Files.{Good}
 use Rattle.fileword.specs.declared.files.Form.{Form}
 use Rattle.fileword.specs.declared.files.Form.TheVariants.{Pairs, Measured}
-use Rattle.fileword.specs.declared.files.Wanted.{Wanted}
-use Rattle.fileword.specs.declared.files.Wanted.TheVariants.{Either, OnlyPairs, OnlyMeasured}
 use Rattle.fileword.specs.declared.files.Summary.{Summary}
 use Rattle.fileword.specs.declared.files.Fault.{Fault}
 use Rattle.fileword.specs.declared.files.Fault.TheVariants.{WrongKind, SpareBit, OutOfRange, WrongPair, WrongEnd, NoEnd}
@@ -35,11 +33,11 @@ k_said ws = head_k (at ws 0)
 abbrev pub measured : List ℕ → Bool
 measured ws = kind (at ws 1) == 7
 
--- a kind that may stand after the head, for a reader who wants this form
-abbrev pub may_begin : Wanted → ℕ → Bool
-may_begin Either k = (k == 2 || k == 15) || k == 7
-may_begin OnlyPairs k = k == 2 || k == 15
-may_begin OnlyMeasured k = k == 7
+-- a kind that may stand after the head, for a reader who wants this form, or either if it is none
+abbrev pub may_begin : Option Form → ℕ → Bool
+may_begin None k = (k == 2 || k == 15) || k == 7
+may_begin (Some Pairs) k = k == 2 || k == 15
+may_begin (Some Measured) k = k == 7
 
 -- kinds 3, 4, 5, 6 for each of n marks in turn, from place 2 on, and then an end; nothing after it
 abbrev pub in_measured : ℕ → ℕ → ℕ → Bool
@@ -50,7 +48,7 @@ abbrev pub in_pairs : ℕ → ℕ → Bool
 in_pairs before k = not (before == 15) && (k == 2 || k == 15)
 
 -- the kind of the word at place p may stand there
-abbrev pub may_stand : Wanted → List ℕ → ℕ → Bool
+abbrev pub may_stand : Option Form → List ℕ → ℕ → Bool
 may_stand wanted ws p =
     cond (p == 0) (kind (at ws 0) == 1)
     (cond (p == 1) (may_begin wanted (kind (at ws 1)))
@@ -83,7 +81,7 @@ lacks_end [] = true
 lacks_end (w ∷ ws) = not (kind w == 15) && lacks_end ws
 
 -- the word at place p has the fault. Only a word has a fault, but for the want of an end, at the place after the last word
-abbrev pub faulty : Wanted → List ℕ → ℕ → Fault → Bool
+abbrev pub faulty : Option Form → List ℕ → ℕ → Fault → Bool
 faulty wanted ws p WrongKind = nat_lt p (length ws) && not (may_stand wanted ws p)
 faulty wanted ws p SpareBit = nat_lt p (length ws) && spare_set (at ws p)
 faulty wanted ws p OutOfRange = nat_lt p (length ws) && (p == 0 && not (in_range (at ws 0)))
@@ -92,20 +90,20 @@ faulty wanted ws p WrongEnd = nat_lt p (length ws) && (kind (at ws p) == 15 && n
 faulty wanted ws p NoEnd = p == length ws && lacks_end ws
 
 -- no word before the place has a fault, the word there has this one, and none that is looked for before it
-pub record Refused (wanted : Wanted) (ws : List ℕ) (r : FileRefusal) : Type 0 where
+pub record Refused (wanted : Option Form) (ws : List ℕ) (r : FileRefusal) : Type 0 where
   pub clean : (p : ℕ) → p < r.place → (f : Fault) → faulty wanted ws p f ≡ false
   pub first : (f : Fault) → number f < number r.fault → faulty wanted ws r.place f ≡ false
   pub this : faulty wanted ws r.place r.fault ≡ true
 
--- the forms that a reader takes
-abbrev pub takes : Wanted → Form → Bool
-takes Either f = true
-takes OnlyPairs Pairs = true
-takes OnlyPairs Measured = false
-takes OnlyMeasured Pairs = false
-takes OnlyMeasured Measured = true
+-- the forms that a reader takes who wants this form, or either if it is none
+abbrev pub takes : Option Form → Form → Bool
+takes None f = true
+takes (Some Pairs) Pairs = true
+takes (Some Pairs) Measured = false
+takes (Some Measured) Pairs = false
+takes (Some Measured) Measured = true
 
 -- a reader's verdict on a file
-abbrev pub Judged : Wanted → List ℕ → Result Summary FileRefusal → Type 0
+abbrev pub Judged : Option Form → List ℕ → Result Summary FileRefusal → Type 0
 Judged wanted ws (Ok f) = Good ws f × (takes wanted f.form ≡ true)
 Judged wanted ws (Err r) = Refused wanted ws r

@@ -1,5 +1,5 @@
 -- The laws of the file check. Assumes nothing.
-use Rattle.std.specs.Prelude.{◌≡◌, ℕ, ◌+◌, ◌*◌, ◌^◌, ◌<◌, min, max, true, false, cond, List, Result, slice_index_or}
+use Rattle.std.specs.Prelude.{◌≡◌, ℕ, ◌+◌, ◌*◌, ◌^◌, ◌<◌, min, max, true, false, cond, List, Result, slice_index_or, Option}
 use Rattle.plex.specs.Distance.{Sighting}
 use Rattle.plex.specs.Sets.{among}
 use Rattle.fileword.specs.Layout.{pair_word, load, point_of}
@@ -7,7 +7,6 @@ use Rattle.fileword.specs.Files.{Pair, PairFile, MeasuredFile, Good, named_in}
 use Rattle.fileword.specs.Faults.{at, marks_said, k_said, measured, faulty, takes, Judged}
 use Rattle.fileword.specs.declared.files.Form.{Form}
 use Rattle.fileword.specs.declared.files.Form.TheVariants.{Pairs, Measured}
-use Rattle.fileword.specs.declared.files.Wanted.{Wanted}
 use Rattle.fileword.specs.declared.files.Summary.{Summary}
 use Rattle.fileword.specs.declared.files.Fault.{Fault}
 use Rattle.fileword.specs.declared.files.FileRefusal.{FileRefusal}
@@ -20,16 +19,16 @@ abbrev pub said : List ℕ → Summary
 said ws = record { form = form_said ws; marks = marks_said ws; k = k_said ws }
 
 -- no word has a fault, and there is an end
-abbrev pub Spotless : Wanted → List ℕ → Type 0
+abbrev pub Spotless : Option Form → List ℕ → Type 0
 Spotless wanted ws = (p : ℕ) (f : Fault) → faulty wanted ws p f ≡ false
 
 pub record AcceptedWhenGood : Type 0 where
   -- words without a fault are a good file, as their head says
-  pub enough : (wanted : Wanted) (ws : List ℕ) → Spotless wanted ws → Good ws (said ws) × (takes wanted (form_said ws) ≡ true)
+  pub enough : (wanted : Option Form) (ws : List ℕ) → Spotless wanted ws → Good ws (said ws) × (takes wanted (form_said ws) ≡ true)
   -- a good file has no fault, and is as its head says
-  pub needed : (wanted : Wanted) (ws : List ℕ) (f : Summary) → Good ws f → takes wanted f.form ≡ true → Spotless wanted ws × (f ≡ said ws)
+  pub needed : (wanted : Option Form) (ws : List ℕ) (f : Summary) → Good ws f → takes wanted f.form ≡ true → Spotless wanted ws × (f ≡ said ws)
   -- there is one verdict
-  pub once : (wanted : Wanted) (ws : List ℕ) (u v : Result Summary FileRefusal) → Judged wanted ws u → Judged wanted ws v → u ≡ v
+  pub once : (wanted : Option Form) (ws : List ℕ) (u v : Result Summary FileRefusal) → Judged wanted ws u → Judged wanted ws v → u ≡ v
 
 -- the sighting of mark i, where it stands in a measured file
 abbrev pub sighting_at : List ℕ → ℕ → Sighting

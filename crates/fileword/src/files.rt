@@ -8,14 +8,6 @@ pub enum Form {
     Measured,
 }
 
-// Which forms a reader takes.
-#[derive(Clone, Copy, PartialEq, Eq, Debug)]
-pub enum Wanted {
-    Either,
-    OnlyPairs,
-    OnlyMeasured,
-}
-
 // What a good file is: its form, how many marks it has, and the k that it was made for.
 #[derive(Clone, Copy, PartialEq, Eq, Debug)]
 pub struct Summary {

@@ -1,9 +1,8 @@
 -- There is one verdict on a file's bytes.
-use Rattle.std.proofs.Common.{◌≡◌, ℕ, List, Ok, Err, Result, sym, refl, ap, ◌∙◌, subst}
+use Rattle.std.proofs.Common.{◌≡◌, ℕ, List, Ok, Err, Result, sym, refl, ap, ◌∙◌, subst, None}
 use Rattle.fileword.specs.Faults.{Judged}
 use Rattle.fileword.specs.declared.files.Summary.{Summary}
 use Rattle.fileword.specs.declared.files.FileRefusal.{FileRefusal}
-use Rattle.fileword.specs.declared.files.Wanted.TheVariants.{Either}
 use Rattle.fileword.proofs.Verdict.{one_verdict}
 use Rattle.page.specs.Bytes.{Stores}
 use Rattle.page.specs.Verdicts.{OneVerdict}
@@ -16,10 +15,10 @@ abbrev on_bytes : Result Summary FileRefusal → Result Summary Refusal
 on_bytes (Ok f) = Ok f
 on_bytes (Err r) = Err (Word r)
 
-same_words : (bs : List ℕ) (u v : Result Summary FileRefusal) → (ws : List ℕ) × Stores bs ws × Judged Either ws u → (ws : List ℕ) × Stores bs ws × Judged Either ws v → u ≡ v
+same_words : (bs : List ℕ) (u v : Result Summary FileRefusal) → (ws : List ℕ) × Stores bs ws × Judged None ws u → (ws : List ℕ) × Stores bs ws × Judged None ws v → u ≡ v
 same_words bs u v p q =
-    let P : List ℕ → Type 0 = λ ws. Judged Either ws v in
-    one_verdict Either p.0 u v p.2 (subst P (words_known q.0 p.0 (q.1 ∙ sym p.1)) q.2)
+    let P : List ℕ → Type 0 = λ ws. Judged None ws v in
+    one_verdict None p.0 u v p.2 (subst P (words_known q.0 p.0 (q.1 ∙ sym p.1)) q.2)
 
 pub one_on_bytes : OneVerdict
 one_on_bytes bs (Ok f) (Ok g) p q = ap on_bytes (same_words bs (Ok f) (Ok g) (p.1.0, p.1.1, (p.1.2, refl)) (q.1.0, q.1.1, (q.1.2, refl)))

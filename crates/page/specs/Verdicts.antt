@@ -1,9 +1,8 @@
 -- The verdict on a file's bytes, and the line that is printed. Assumes nothing.
-use Rattle.std.specs.Prelude.{◌≡◌, ℕ, List, [], ◌∷◌, ◌++◌, Ok, Err, codes, decimal, Result}
+use Rattle.std.specs.Prelude.{◌≡◌, ℕ, List, [], ◌∷◌, ◌++◌, Ok, Err, codes, decimal, Result, None}
 use Rattle.fileword.specs.Files.{Good}
 use Rattle.fileword.specs.Faults.{number, Refused}
 use Rattle.fileword.specs.declared.files.Summary.{Summary}
-use Rattle.fileword.specs.declared.files.Wanted.TheVariants.{Either}
 use Rattle.page.specs.Bytes.{Stores, Whole}
 use Rattle.page.specs.declared.verdict.Refusal.{Refusal}
 use Rattle.page.specs.declared.verdict.Refusal.TheVariants.{NotWords, Word}
@@ -21,7 +20,7 @@ place_of (Word r) = r.place
 abbrev pub Verdict : List ℕ → Result Summary Refusal → Type 0
 Verdict bs (Ok f) = Whole bs × ((ws : List ℕ) × Stores bs ws × Good ws f)
 Verdict bs (Err NotWords) = Whole bs → ⊥
-Verdict bs (Err (Word r)) = Whole bs × ((ws : List ℕ) × Stores bs ws × Refused Either ws r)
+Verdict bs (Err (Word r)) = Whole bs × ((ws : List ℕ) × Stores bs ws × Refused None ws r)
 
 -- the line of a verdict
 abbrev pub line : Result Summary Refusal → List ℕ

@@ -29,8 +29,8 @@ pub fn page(bytes: &[u8]) -> Page
     }
 }
 
-// A line of two short texts, each with a number behind it. `write!` promises the text only where it answers `Ok`, and not when it
-// does, and a page has no case that fails.
+// A line of two short texts, each with a number behind it. `write!` promises the text only where it answers `Ok`, and does
+// not say when that is, and a page has no case that fails.
 fn numbers_line(start: &[u8], m: usize, middle: &[u8], n: usize) -> Page
     requires { (length start.now ≤ 8) × (length middle.now ≤ 8) }
     ensures { shown result ≡ start.now ++ (decimal m ++ (middle.now ++ (decimal n ++ (10 ∷ [])))) }

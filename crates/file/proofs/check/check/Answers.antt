@@ -1,5 +1,4 @@
-use Rattle.std.proofs.Common.{Ok, refl}
-use Rattle.fileword.specs.declared.files.Wanted.TheVariants.{Either}
+use Rattle.std.proofs.Common.{Ok, refl, None}
 use Rattle.fileword.proofs.Verdict.{one_verdict}
 use Rattle.file.proofs.check.check.Goals as goal
 
@@ -8,5 +7,5 @@ returns c =
     let ws = c.args.words.now in
     record {
       verdict = c.judge.ensures;
-      accepts = λ f g. one_verdict Either ws c.judge.result (Ok f) c.judge.ensures (g, refl);
+      accepts = λ f g. one_verdict None ws c.judge.result (Ok f) c.judge.ensures (g, refl);
     }

@@ -1,11 +1,11 @@
-use Rattle.std.proofs.Common.{refl}
-use Rattle.fileword.specs.declared.files.Wanted.TheVariants.{OnlyMeasured}
+use Rattle.std.proofs.Common.{refl, Some}
+use Rattle.fileword.specs.declared.files.Form.TheVariants.{Measured}
 use Rattle.fileword.proofs.Verdict.{good_or_refused}
 use Rattle.file.proofs.Reading.{measured_read}
 use Rattle.file.proofs.measured.MeasuredSheet.read.Goals as goal
 
 pub returns-in_err-judge-clause-accepts : goal.returns-in_err-judge-clause-accepts
-returns-in_err-judge-clause-accepts c n k h = absurd (good_or_refused OnlyMeasured c.args.words.now _ _ (h, refl) c.in_err-judge.ensures)
+returns-in_err-judge-clause-accepts c n k h = absurd (good_or_refused (Some Measured) c.args.words.now _ _ (h, refl) c.in_err-judge.ensures)
 
 pub returns-clause-reads : goal.returns-clause-reads
 returns-clause-reads c = let g = c.in_ok-judge.ensures in measured_read c.args.words.now c.in_ok-judge.field-0 g.0 g.1 _ refl

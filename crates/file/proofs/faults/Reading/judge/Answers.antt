@@ -5,7 +5,7 @@ use Rattle.fileword.specs.declared.files.Summary.{Summary}
 use Rattle.fileword.proofs.Verdict.{good_from_spotless}
 use Rattle.file.proofs.Verdict.{spotless}
 use Rattle.file.specs.Finding.{FindsAt}
-use Rattle.file.proofs.check.judge.Goals as goal
+use Rattle.file.proofs.faults.Reading.judge.Goals as goal
 
 -- what is said of an item is said of its value
 of_item : {A : Type 0} (o : Option A) (x : A) (P : A → Type 0) → o ≡ Some x → IsSomeAnd o P → P x
@@ -14,8 +14,8 @@ of_item (Some y) x P e h = subst (λ o. IsSomeAnd o P) e h
 
 pub returns-in-Some : goal.returns-in-Some
 returns-in-Some c =
-    let ws = c.args.words.now in
-    let w = c.args.wanted in
+    let ws = c.args.self.now.words.now in
+    let w = c.args.self.now.wanted in
     let h = c.in-Some.ensures.runs in
     let i = h.2.0 in
     let at : (k : ℕ) → k < h.0.len → h.0.at k ≡ Some k = λ k l. search (rules, ranges) in
@@ -30,7 +30,7 @@ returns-in-Some c =
 
 pub returns-in-None-2 : goal.returns-in-None-2
 returns-in-None-2 c =
-    let ws = c.args.words.now in
-    let clean = spotless c.args.wanted ws (λ p l f. search (rules, ranges)) (sym c.lacks_end.ensures ∙ c.if-lacks_end.false) in
-    let P : Summary → Type 0 = λ f. Judged c.args.wanted ws (Ok f) in
-    subst P (sym c.summary.ensures) (good_from_spotless c.args.wanted ws clean)
+    let ws = c.args.self.now.words.now in
+    let clean = spotless c.args.self.now.wanted ws (λ p l f. search (rules, ranges)) (sym c.lacks_end.ensures ∙ c.if-lacks_end.false) in
+    let P : Summary → Type 0 = λ f. Judged c.args.self.now.wanted ws (Ok f) in
+    subst P (sym c.summary.ensures) (good_from_spotless c.args.self.now.wanted ws clean)
