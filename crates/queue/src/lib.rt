@@ -16,10 +16,10 @@ mod tests {
         let mut queue = Queue::over(&mut places[..]);
         assert!(rt; queue.push(1).is_ok() && queue.push(2).is_ok());
         assert!(rt; queue.push(3).is_err());
-        assert_eq!(rt; &queue.pop(), &Some(1));
+        assert_eq!(rt; queue.pop(), Some(1));
         assert!(rt; queue.push(3).is_ok());
-        assert_eq!(rt; &queue.pop(), &Some(2));
-        assert_eq!(rt; &queue.pop(), &Some(3));
-        assert_eq!(rt; &queue.pop(), &None);
+        assert_eq!(rt; queue.pop(), Some(2));
+        assert_eq!(rt; queue.pop(), Some(3));
+        assert_eq!(rt; queue.pop(), None);
     }
 }

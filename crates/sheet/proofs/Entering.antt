@@ -22,9 +22,6 @@ agree_more : (n : ℕ) (r s : Agreement) (u v i j : ℕ) → u < n → v < n →
     ((p q : ℕ) → p < n → q < n → s p q ≡ (r p q || is_pair u v p q)) → agree_by n s i j ≡ (agree_by n r i j || is_pair u v i j)
 agree_more n r s u v i j hu hv d h = let a = h i j in let b = h j i in grind (arith, nat_tests)
 
-pub begun_length : (ws : List ℕ) (m : ℕ) → m ≤ length ws → length (replicate m 0 ++ drop m ws) ≡ length ws
-begun_length ws m h = simp (length-append, length-replicate, length-drop) (omega arith)
-
 -- among the marks of a begun entry none agree
 pub begun_nothing : (ws ws' : List ℕ) (n : ℕ) → ws' ≡ replicate (n * row_words n) 0 ++ drop (n * row_words n) ws → (i j : ℕ) → entered ws' n i j ≡ false
 begun_nothing ws ws' n cleared i j =
@@ -54,9 +51,6 @@ module _ (ws : List ℕ) (n i j : ℕ) (hi : i < n) (hj : j < n) (room : n * row
 -- an entered pair agrees, and all else is as it was
 module _ (ws : List ℕ) (n i j : ℕ) (hi : i < n) (hj : j < n) (apart : i ≡ j → ⊥) (room : n * row_words n ≤ length ws)
     (ws' : List ℕ) (is : ws' ≡ bit_entered (bit_entered ws (row_words n) i j) (row_words n) j i) where
-  pub entered_length : length ws' ≡ length ws
-  entered_length = ap length is ∙ length-set (bit_entered ws (row_words n) i j) _ _ ∙ length-set ws _ _
-
   pub entered_pair : (p q : ℕ) → entered ws' n p q ≡ (entered ws n p q || is_pair i j p q)
   entered_pair p q =
       let r = row_words n in

@@ -47,7 +47,8 @@ pub trait Strike: Sheet {
     // What striking never changes.
     ghost lasting: { Self → List ℕ };
 
-    // Removes the agreement of marks i and j if it is there, and says whether it was; nothing else changes.
+    // Removes the agreement of marks i and j if it is there, and says whether it was; nothing else changes. It refuses
+    // nothing, so yes or no is its whole answer.
     fn strike(&mut self, i: u32, j: u32) -> bool
         ensures said { result ≡ (Self.Sheet.meaning self.old).agrees i j }
         ensures struck { Struck (Self.Sheet.meaning self.old) i j (Self.Sheet.meaning self.new) }

@@ -1,7 +1,8 @@
 -- What is among the words of a list, by places.
 use Rattle.std.proofs.Common.{◌≡◌, ℕ, zero, suc, ◌<◌, ◌≤◌, Bool, true, false, not, ◌&&◌, eqb, List, [], ◌∷◌, length, get_or, take, set, sym, ap, ◌∙◌, inl, inr, arith, length-set, length-take, get_or-take}
 use Rattle.std.proofs.lemmas.List.{get_or-set_same, get_or-set_other}
-use Rattle.std.proofs.lemmas.Bool.{cases_eq, cases_lt, cases_Bool, or_left, or_right, or_cases, eq-eqb, ne_eqb, eqb-true, false≢true}
+use Rattle.std.specs.Cmp.{both_ways}
+use Rattle.std.proofs.lemmas.Bool.{cases_eq, cases_lt, or_left, or_right, or_cases, eq-eqb, ne_eqb, eqb-true, false≢true}
 use Rattle.plex.specs.Sets.{among}
 
 pub among_at : (xs : List ℕ) (p x : ℕ) → p < length xs → get_or xs p 0 ≡ x → among xs x ≡ true
@@ -18,15 +19,9 @@ among_place (y ∷ xs) x e =
     ]
 
 -- two tests that are true together
-pub same_test : (a b : Bool) → (a ≡ true → b ≡ true) → (b ≡ true → a ≡ true) → a ≡ b
-same_test a b f g = grind arith
-
-pub test_fails : (b : Bool) → (b ≡ true → ⊥) → b ≡ false
-test_fails b h = elim (cases_Bool b) [ inl e ↦ absurd (h e) | inr e ↦ e ]
-
 -- where nothing but 0 stands from len on, the first len words have all but 0
 pub among_front : (ws : List ℕ) (len x : ℕ) → len ≤ length ws → 0 < x → ((p : ℕ) → len ≤ p → get_or ws p 0 ≡ 0) → among (take len ws) x ≡ among ws x
-among_front ws len x l h z = same_test (among (take len ws) x) (among ws x) up down
+among_front ws len x l h z = both_ways (among (take len ws) x) (among ws x) up down
   where
     k : length (take len ws) ≡ len
     k = simp length-take (omega arith)
@@ -49,7 +44,7 @@ among_front ws len x l h z = same_test (among (take len ws) x) (among ws x) up d
 pub among_changed : (ws : List ℕ) (p v x : ℕ) → p < length ws → (v ≡ x → ⊥) → ((q : ℕ) → get_or ws q 0 ≡ get_or ws p 0 → q < length ws → q ≡ p) →
     among (set ws p v) x ≡ (among ws x && not (eqb x (get_or ws p 0)))
 among_changed ws p v x l d once =
-    same_test (among (set ws p v) x) (among ws x && not (eqb x (get_or ws p 0))) up down
+    both_ways (among (set ws p v) x) (among ws x && not (eqb x (get_or ws p 0))) up down
   where
     up : among (set ws p v) x ≡ true → (among ws x && not (eqb x (get_or ws p 0))) ≡ true
     up e =

@@ -14,7 +14,8 @@ use Rattle.fileword.specs.Layout.{kind, load, upper, lower, pair_word}
 use Rattle.fileword.proofs.Words.{kind_fields, upper_fields, lower_fields}
 use Rattle.tables.specs.Pairs.{row_pairs, pairs_to}
 use Rattle.pairing.specs.Naming.{names}
-use Rattle.tables.proofs.Among.{among_at, among_place, same_test}
+use Rattle.tables.proofs.Among.{among_at, among_place}
+use Rattle.std.specs.Cmp.{both_ways}
 use Rattle.pairing.proofs.Naming.{among_append}
 
 -- how many words the pairs with the first marks have
@@ -165,8 +166,8 @@ pub pairs_name : (n : ℕ) (r : Agreement) → n ≤ 128 → ((i j : ℕ) → r 
     ((i j : ℕ) → n ≤ i → r i j ≡ false) → (i j : ℕ) → agree_by n (names (pairs_to n n r)) i j ≡ r i j
 pairs_name n r few both self inside i j =
     fits i j (names (pairs_to n n r) i j) (names (pairs_to n n r) j i) (r i j) (λ h. inside i j h) (λ h. both i j ∙ inside j i h)
-    (λ h. ap (r i) (sym h) ∙ self i) (λ h k l. same_test _ _ (pairs_only r n i j few h k) (pairs_have r n n i j h l k))
-    (λ h k l. same_test _ _ (pairs_only r n j i few k h) (pairs_have r n n j i k l h) ∙ both j i)
+    (λ h. ap (r i) (sym h) ∙ self i) (λ h k l. both_ways _ _ (pairs_only r n i j few h k) (pairs_have r n n i j h l k))
+    (λ h k l. both_ways _ _ (pairs_only r n j i few k h) (pairs_have r n n j i k l h) ∙ both j i)
   where
     fits : (i j : ℕ) (x y z : Bool) → (n ≤ i → z ≡ false) → (n ≤ j → z ≡ false) → (i ≡ j → z ≡ false) → (i < n → j < n → i < j → x ≡ z) →
         (i < n → j < n → j < i → y ≡ z) → ((ltb i n && ltb j n) && ((ltb i j && x) || (ltb j i && y))) ≡ z

@@ -4,7 +4,7 @@ use mathlib.Core.Path.{fun_ext}
 use lib.ListN.{length-replicate}
 use Rattle.std.proofs.ByRecursion.{All-get_or}
 use Rattle.std.proofs.lemmas.List.{get_or-set_other, get_or_past, get_or-replicate}
-use Rattle.std.proofs.lemmas.Bool.{cases_lt, cases_Bool, cases_order, eq-eqb, eqb-true, false≢true}
+use Rattle.std.proofs.lemmas.Bool.{cases_lt, cases_Bool, cases_order, eq-eqb, eqb-true, false≢true, false_from_ne_true}
 use Rattle.std.proofs.lemmas.Bool.Decides.{nat_tests}
 use Rattle.std.specs.Bool.{then_some}
 use Rattle.std.specs.Result.{result_ok}
@@ -20,7 +20,7 @@ use Rattle.fileword.specs.Layout.{kind, load, upper, lower, pair_word}
 use Rattle.tables.specs.Pairs.{pair_or_struck, stands, out_of_order, left_over, pairs_to}
 use Rattle.pairing.specs.Naming.{names}
 use Rattle.tables.specs.Lookup.{Found}
-use Rattle.tables.proofs.Among.{among_at, among_place, among_front, test_fails}
+use Rattle.tables.proofs.Among.{among_at, among_place, among_front}
 use Rattle.tables.proofs.PairLists.{PairOf, length_pairs, pairs_good, pairs_rise, pairs_name}
 
 -- what the tests of a place say
@@ -157,7 +157,7 @@ module _ (ws : List ℕ) (len : ℕ) (rises : (p q : ℕ) → out_of_order ws le
   -- where the words behind are 0, a word that none of the first ones is, is nowhere
   nowhere : (w : ℕ) → 0 < w → ((p : ℕ) → len ≤ p → get_or ws p 0 ≡ 0) → ((p : ℕ) → p < len → get_or ws p 0 ≡ w → ⊥) → among ws w ≡ false
   nowhere w pos zeros h =
-      test_fails (among ws w) (λ t.
+      false_from_ne_true (among ws w) (λ t.
       let r = among_place ws w t in
       elim (cases_lt r.0 len) [ inl l ↦ h r.0 l r.2 | inr l ↦ omega (arith, zeros r.0 l, r.2) ])
 

@@ -3,7 +3,8 @@ ghost use Rattle.std.specs.Prelude.{◌≡◌, ℕ, ◌≤◌, true, false};
 ghost use Rattle.tables.specs.Pairs.{stands, out_of_order};
 
 // The first `len` words are pair words as in a file, in the same order, or the same with kind 14 for a struck pair; the
-// others are 0. An array with its length, since no memory is asked for; it holds no list of pairs, which knows no order.
+// others are 0. An array with its length, since no memory is asked for, and not a `PairList`, of whose words no order is
+// known.
 #[derive(Clone, Copy)]
 pub struct PairTable {
     words: [u32; 4096],

@@ -50,7 +50,7 @@ impl<'a, T: Copy> Queue<'a, T> {
         if self.len == all {
             return Err(QueueRefusal::Full);
         }
-        // not by `%`: the sum may be past every number where elements take no memory
+        // not by `%`: the sum may overflow where elements take no memory
         let room = all - self.head;
         let at = if self.len < room {
             self.head + self.len

@@ -1,5 +1,5 @@
 // Beginning an entry, entering pairs, and sealing.
-ghost use Rattle.std.specs.Prelude.{◌≡◌, ℕ, ◌+◌, ◌*◌, ◌/◌, ◌%◌, ◌^◌, ◌<◌, ◌≤◌, length, Ok, Err, bit_or, slice_index, slice_set};
+ghost use Rattle.std.specs.Prelude.{◌≡◌, ℕ, ◌+◌, ◌*◌, ◌/◌, ◌%◌, ◌^◌, ◌<◌, ◌≤◌, length, MatchResult, bit_or, slice_index, slice_set};
 ghost use Rattle.sheet.specs.contracts.entry.questions.SealedSheet.TheImpl.{ghosts};
 ghost use Rattle.sheet.specs.Rows.{row_words, bit_entered, LeastWords};
 ghost use Rattle.sheet.specs.Entering.{number, entered, Begins, Enters};
@@ -35,7 +35,7 @@ impl<'a> Entry<'a> {
     pub fn begin(words: &'a mut [u32], marks: u32) -> Result<Entry<'a>, NotBegun<'a>>
         ensures begins { Begins words.old marks result }
         ensures rows { LeastWords }
-        ensures lent { elim result [ Ok e ↦ e.words.ghost_name ≡ words.entry.ghost_name | Err b ↦ b.words.ghost_name ≡ words.entry.ghost_name ] }
+        ensures lent { MatchResult result (λ e. e.words.ghost_name ≡ words.entry.ghost_name) (λ b. b.words.ghost_name ≡ words.entry.ghost_name) }
     {
         if marks > 128 {
             return Err(NotBegun {

@@ -2,13 +2,13 @@
 ghost use Rattle.tables.specs.Meanings.{pair_table_meaning, loads};
 
 use super::PairTable;
-use fileword::layout::word_of_pair;
+use fileword::layout::{Kind, word_of_pair};
 use pairing::row_among;
 use sheet::kinds::{Sheet, Strike};
 use sheet::two::two_marks;
 
-// What striking adds to the word of a pair: its kind, 2, becomes 14.
-const STRUCK: u32 = 0xC000_0000;
+// What striking adds to the word of a pair: its kind becomes that of a struck pair.
+const STRUCK: u32 = (Kind::StruckPair as u32 - Kind::Pair as u32) * 0x1000_0000;
 
 impl Sheet for PairTable {
     ghost meaning = { pair_table_meaning };

@@ -31,7 +31,8 @@ impl PairList {
         Ok(())
     }
 
-    // Adds the words of mark i with the higher marks of its row, if there is room.
+    // Adds the words of mark i with the higher marks of its row, if there is room. By number: the row may hold marks at
+    // or above `marks`.
     pub(crate) fn add_row(&mut self, row: MarkSet, i: u32, marks: u32) -> Result<(), TableRefusal>
         requires { (i < marks) × (marks ≤ 128) }
         ensures { RowAdded (listed self.old) i marks (members row) result (listed self.new) }
