@@ -1,5 +1,5 @@
 -- Counting agreements mark by mark.
-use Rattle.std.proofs.Common.{◌≡◌, ℕ, zero, suc, ◌+◌, ◌*◌, ◌≤◌, refl, ap, ◌∙◌, add-one, arith}
+use Rattle.std.proofs.Common.{◌≡◌, ℕ, ◌+◌, ◌*◌, ◌≤◌, refl, ap, ◌∙◌, add-one, arith}
 use Rattle.plex.specs.Sets.{Set, card, only, below, ◌∪◌, ◌∖◌}
 use Rattle.plex.specs.Meaning.{Meaning}
 use Rattle.plex.proofs.Below.{one_more_below}

@@ -1,17 +1,29 @@
 -- What waits, and how much is left to do.
-use Rattle.std.proofs.Common.{◌≡◌, ◌+◌, ◌<◌, ◌≤◌, Bool, Some, length, ap, ap₂, inl, inr, arith}
+use Rattle.std.proofs.Common.{◌≡◌, ℕ, ◌+◌, ◌*◌, ◌<◌, ◌≤◌, Bool, Some, length, ap, ap₂, inl, inr, arith}
 use Rattle.std.proofs.lemmas.Bool.{cases_Bool}
 use Rattle.queue.specs.declared.ring.Queue.{Queue}
 use Rattle.queue.specs.Waits.{held, waiting}
 use Rattle.queue.proofs.Lengths.{waiting_fits}
+use Rattle.plex.specs.Meaning.{Meaning}
 use Rattle.pruning.proofs.Keeping.{work_falls}
 use Rattle.coprune.specs.declared.limits.Limits.{Limits}
 use Rattle.coprune.specs.declared.waiting.Waiting.{Waiting}
 use Rattle.coprune.specs.declared.waiting.Next.{Next}
 use Rattle.coprune.specs.declared.waiting.Next.TheVariants.{Mark, Pair}
-use Rattle.coprune.specs.Waiting.{TakesNext, SameRoom, room, how_many}
-use Rattle.coprune.specs.Coprune.{Kind, Worn, Steps, at_ends, work}
+use Rattle.coprune.specs.Waiting.{TakesNext, SameRoom}
+use Rattle.coprune.specs.Coprune.{Kind, Worn, Steps, at_ends}
 use Rattle.coprune.proofs.Wearing.{wears_fewer}
+
+-- how many may wait, and how many do
+abbrev pub room : Waiting → ℕ
+room w = length (held w.marks) + length (held w.pairs)
+
+abbrev pub how_many : Waiting → ℕ
+how_many w = length (waiting w.marks) + length (waiting w.pairs)
+
+-- what is left to do at most: either an agreement is struck, and as many may wait as there are places, or fewer wait
+abbrev pub work : Meaning → Waiting → ℕ
+work m w = at_ends m * (room w + 1) + how_many w
 
 pub same_places : (w w' : Waiting) → SameRoom w w' → room w' ≡ room w
 same_places w w' r = ap₂ ◌+◌ r.marks r.pairs

@@ -1,11 +1,11 @@
 -- What the steps of co-pruning do. Assumes nothing.
-use Rattle.std.specs.Prelude.{◌≡◌, ℕ, ◌+◌, ◌*◌, ◌<◌, Bool, true, false, ◌&&◌, List}
+use Rattle.std.specs.Prelude.{◌≡◌, ℕ, ◌<◌, Bool, true, false, ◌&&◌, List}
 use Rattle.plex.specs.Meaning.{Meaning}
 use Rattle.plex.specs.Sets.{Set}
 use Rattle.pruning.specs.Pruned.{Kept, Largest, offends, agreements_at_ends}
 use Rattle.coprune.specs.declared.limits.Limits.{Limits}
 use Rattle.coprune.specs.declared.waiting.Waiting.{Waiting}
-use Rattle.coprune.specs.Waiting.{SameRoom, room, how_many}
+use Rattle.coprune.specs.Waiting.{SameRoom}
 
 -- what a kind of sheets says of them: what each means, and what striking never changes of it
 abbrev pub Kind : Type 0 → Type 0
@@ -28,7 +28,7 @@ at_ends m = agreements_at_ends m.marks m.agrees
 abbrev pub bad : Limits → Meaning → ℕ → ℕ → Bool
 bad l m i j = m.agrees i j && offends m.marks l.ends l.shared m.agrees i j
 
--- some agreements were looked at, and those that may not stay were struck, if there were any
+-- some agreements that may not stay were struck, and fewer are left if any was
 pub record Worn (l : Limits) (was_struck : Bool) (m m' : Meaning) : Type 0 where
   pub wears : Wears l m m'
   pub fewer : was_struck ≡ true → at_ends m' < at_ends m
@@ -54,10 +54,6 @@ pub record Steps {S : Type 0} (kind : Kind S) (related : Bool → Meaning → Me
   pub strikes : Strikes kind (related was_struck) s s'
   pub idle : was_struck ≡ false → (s' ≡ s) × (w' ≡ w)
   pub room : SameRoom w w'
-
--- what is left to do at most: either an agreement is struck, and as many may wait as there are places, or fewer wait
-abbrev pub work : Meaning → Waiting → ℕ
-work m w = at_ends m * (room w + 1) + how_many w
 
 -- no agreement is left that may not stay, and none is struck that may
 pub record Ends (l : Limits) (m m' : Meaning) : Type 0 where

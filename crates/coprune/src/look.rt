@@ -6,7 +6,7 @@ ghost use Rattle.coprune.specs.Waiting.{SameRoom};
 
 use crate::limits::Limits;
 use crate::rows::is_offending;
-use crate::waiting::Waiting;
+use crate::waiting::{Next, Waiting};
 use marks::set::MarkSet;
 use sheet::kinds::{Sheet, Strike, neighbours};
 
@@ -29,7 +29,7 @@ fn note_mark<S: Sheet>(sheet: &S, limits: Limits, i: u32, waiting: &mut Waiting)
     ensures { SameRoom waiting.old waiting.new }
 {
     if just_short(neighbours(sheet, i).count(), limits.ends) {
-        waiting.add_mark(i);
+        waiting.add(Next::Mark(i));
     }
 }
 
@@ -38,7 +38,7 @@ fn note_pair(limits: Limits, pair: Pair, shared: MarkSet, waiting: &mut Waiting)
     ensures { SameRoom waiting.old waiting.new }
 {
     if just_short(shared.count(), limits.shared) {
-        waiting.add_pair(pair);
+        waiting.add(Next::Pair(pair));
     }
 }
 

@@ -1,13 +1,11 @@
 // What waits to be looked at again.
-ghost use Rattle.std.specs.Prelude.{◌≡◌, ℕ, Result};
-ghost use Rattle.queue.specs.declared.ring.QueueRefusal.{QueueRefusal};
-ghost use Rattle.queue.specs.Waits.{Put};
-ghost use Rattle.coprune.specs.Waiting.{NoneWaits, TakesNext};
+ghost use Rattle.coprune.specs.Waiting.{NoneWaits, PutIfRoom, Adds, TakesNext};
 
 use crate::look::Pair;
 use queue::ring::Queue;
 
-// Marks that lost an agreement, and pairs that share a mark less.
+// The marks and the pairs that are to be looked at again. The sheet and the limits are no part of it: each contract would have to
+// say that they stay the same.
 #[derive(Drop)]
 pub(crate) struct Waiting<'a> {
     marks: Queue<'a, u32>,
@@ -23,7 +21,7 @@ pub(crate) enum Next {
 
 // Has x wait. Where the queue is full it does not: a later sweep over all agreements looks at it.
 fn wait<T: Copy>(queue: &mut Queue<T>, x: T)
-    ensures { (r : Result ℕ QueueRefusal) × Put queue.old x r queue.new }
+    ensures { PutIfRoom queue.old x queue.new }
 {
     let _ = queue.push(x);
 }
@@ -39,24 +37,21 @@ impl<'a> Waiting<'a> {
         }
     }
 
-    pub(crate) fn add_mark(&mut self, mark: u32)
-        ensures waits { (r : Result ℕ QueueRefusal) × Put self.old.marks mark r self.new.marks }
-        ensures others { self.new.pairs ≡ self.old.pairs }
+    // Has it wait, a mark behind the marks and a pair behind the pairs.
+    pub(crate) fn add(&mut self, next: Next)
+        ensures { Adds self.old next self.new }
     {
-        wait(&mut self.marks, mark);
-    }
-
-    pub(crate) fn add_pair(&mut self, pair: Pair)
-        ensures waits { (r : Result ℕ QueueRefusal) × Put self.old.pairs pair r self.new.pairs }
-        ensures others { self.new.marks ≡ self.old.marks }
-    {
-        wait(&mut self.pairs, pair);
+        match next {
+            Next::Mark(mark) => wait(&mut self.marks, mark),
+            Next::Pair(pair) => wait(&mut self.pairs, pair),
+        }
     }
 
     // Takes what has waited longest, a mark before a pair.
     pub(crate) fn next(&mut self) -> Option<Next>
         ensures { TakesNext self.old result self.new }
     {
+        // no `or_else`: its contract leaves open whether the pairs stay where a mark is there
         match self.marks.pop() {
             Some(mark) => Some(Next::Mark(mark)),
             None => self.pairs.pop().map(Next::Pair),

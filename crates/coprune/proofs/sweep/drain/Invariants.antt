@@ -1,4 +1,5 @@
-use Rattle.coprune.specs.Coprune.{Strikes, Wears, work}
+use Rattle.coprune.specs.Coprune.{Strikes, Wears}
+use Rattle.coprune.proofs.Working.{work}
 use Rattle.coprune.proofs.Stepping.{kind_of}
 use Rattle.coprune.proofs.sweep.drain.Given as goal
 
