@@ -1,9 +1,9 @@
 -- What a set misses when one mark joins it, and when it is a k-plex then.
-use Rattle.std.proofs.Common.{◌≡◌, ℕ, ◌+◌, ◌<◌, ◌≤◌, Bool, true, false, not, ◌&&◌, ◌||◌, eqb, sym, ap, ◌∙◌, inl, inr, arith}
+use Rattle.std.proofs.Common.{◌≡◌, ℕ, ◌+◌, ◌<◌, ◌≤◌, true, false, not, ◌&&◌, ◌||◌, eqb, sym, ap, ◌∙◌, inl, inr, arith}
 use Rattle.std.proofs.lemmas.Bool.Decides.{nat_tests}
 use Rattle.std.proofs.lemmas.Bool.{cases_lt, cases_Bool, cases_eq, eqb-true}
 use Rattle.plex.specs.Sets.{Set, Agreement, NoSelf, one_if, only, ◌∪◌, ◌∖◌, Kplex, Within}
-use Rattle.plex.proofs.Count.{card_ext, card_more}
+use Rattle.plex.proofs.Count.{bit_le, card_ext, card_more}
 use Rattle.ceiling.specs.Formulas.{misses}
 use Rattle.rule.proofs.Plexes.{plex_by_misses, no_plex}
 use Rattle.branch.specs.Sifting.{Borne, MissesUnder}
@@ -40,10 +40,7 @@ module _ (a : Agreement) (s : Set) (u v : ℕ) where
       ]
 
   pub one_more_at_most : v < 128 → misses 128 a (s ∪ only v) u ≤ 1 + misses 128 a s u
-  one_more_at_most l = omega (arith, missed_with l, one_at_most (not (a u v || s v)))
-    where
-      one_at_most : (b : Bool) → one_if b ≤ 1
-      one_at_most b = grind arith
+  one_more_at_most l = omega (arith, missed_with l, bit_le (not (a u v || s v)))
 
 -- a mark of a k-plex misses at most k of its marks
 plex_misses : (k : ℕ) (a : Agreement) (s : Set) (u : ℕ) → s u ≡ true → Kplex 128 k a s → misses 128 a s u ≤ k

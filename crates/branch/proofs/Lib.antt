@@ -2,7 +2,6 @@ pub mod Adding
 pub mod Bearing
 pub mod Sifts
 pub mod Sweeps
-pub mod Bests
 pub mod Trims
 pub mod Picks
 pub mod Opening

@@ -1,20 +1,13 @@
 -- The marks of a set one by one: a test of each, and the k-plex test.
-use Rattle.std.proofs.Common.{◌≡◌, ℕ, zero, suc, ◌+◌, Bool, true, false, not, ◌&&◌, ◌||◌, leb, length, refl, ap, ◌∙◌, arith, ap₂}
+use Rattle.std.proofs.Common.{◌≡◌, ℕ, zero, suc, ◌+◌, Bool, true, false, not, ◌&&◌, ◌||◌, leb, refl, ap, ◌∙◌, arith, ap₂}
 use mathlib.Core.Path.{fun_ext}
 use Rattle.std.specs.List.{list_all}
+use Rattle.std.proofs.Math.Bool.{and_comm}
 use Rattle.std.proofs.lemmas.Bool.Decides.{nat_tests}
 use Rattle.std.proofs.lemmas.List.Folds.{list_all-append}
-use Rattle.std.proofs.lemmas.Iterator.{YieldsList}
-use Rattle.std.proofs.lemmas.Iterator.Consumers.{YieldsList-from_shown}
 use Rattle.plex.specs.Sets.{Set, Agreement, card, ◌∩◌, if_in, rising, all_below, is_kplex}
 use Rattle.plex.proofs.Count.{card_split}
 use Rattle.ceiling.specs.Formulas.{misses}
-use Rattle.marks.specs.declared.set.iter.Rising.{Rising}
-use Rattle.marks.specs.Rising.{to_come, Gives}
-
--- what comes of a set's marks
-pub comes : (r : Rising) → YieldsList Gives (λ u. u) r (to_come r)
-comes r = YieldsList-from_shown Gives (λ u. u) to_come (λ s t h. ap length h.0) (λ s u t h. h.0) r
 
 all_if_in : (test : ℕ → Bool) (b : Bool) (n : ℕ) → list_all test (if_in b n) ≡ (not b || test n)
 all_if_in test true n = grind arith
@@ -24,10 +17,7 @@ all_rising : (test : ℕ → Bool) (n : ℕ) (s : Set) → list_all test (rising
 unfolding rising all_below
 all_rising test zero s = refl
 all_rising test (suc n) s =
-    list_all-append test (rising n s) (if_in (s n) n) ∙ ap₂ ◌&&◌ (all_rising test n s) (all_if_in test (s n) n) ∙ swapped (all_below n (λ i. not (s i) || test i)) (not (s n) || test n)
-  where
-    swapped : (x y : Bool) → (x && y) ≡ (y && x)
-    swapped x y = grind arith
+    list_all-append test (rising n s) (if_in (s n) n) ∙ ap₂ ◌&&◌ (all_rising test n s) (all_if_in test (s n) n) ∙ and_comm (all_below n (λ i. not (s i) || test i)) (not (s n) || test n)
 
 pub plex_test : (k : ℕ) (a : Agreement) (s : Set) → list_all (λ u. leb (misses 128 a s u) k) (rising 128 s) ≡ is_kplex 128 k a s
 plex_test k a s =

@@ -8,7 +8,8 @@ ghost use Rattle.tables.specs.Meanings.{bit_meaning};
 use crate::opened::Opened;
 use tables::bits::BitTable;
 
-// An open branch: the k-plexes that have all chosen marks, and no others but candidates; each set as its four words.
+// An open branch: the k-plexes that have all chosen marks, and no others but candidates. Each set is its four words, with no
+// count: a search holds 129 branches.
 #[derive(Clone, Copy)]
 pub struct Branch {
     pub chosen: [u32; 4],
@@ -34,12 +35,10 @@ impl Branch {
         ensures { result ≡ pick 128 k (bit_meaning table.now).agrees (holds self.now.chosen) (holds self.now.candidates) }
     {
         let opened = Opened::of(self, k, table);
-        let tight = opened.tight_marks();
-        let marks = if tight.is_empty() {
-            opened.candidates
-        } else {
-            tight
-        };
-        opened.most_agreeing(marks)
+        // no `or_else`: of what its closure answers nothing is known without a clause that says it
+        if let Some(u) = opened.most_agreeing(opened.tight_marks()) {
+            return Some(u);
+        }
+        opened.most_agreeing(opened.candidates)
     }
 }

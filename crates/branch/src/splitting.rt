@@ -22,16 +22,8 @@ impl Opened<'_> {
         ensures { result ≡ pick_from 128 (agreed self.entry) (members self.entry.chosen) (members self.entry.candidates) (members marks) }
     {
         let all = self.chosen.or(self.candidates);
-        let mut rest = marks.rising();
-        let mut best = rest.next()?;
-        let mut most = all.and(neighbours(self.table, best)).count();
-        for v in rest {
-            let agreements = all.and(neighbours(self.table, v)).count();
-            if agreements > most {
-                best = v;
-                most = agreements;
-            }
-        }
-        Some(best)
+        marks
+            .rising()
+            .min_by_key(|v| 128 - all.and(neighbours(self.table, *v)).count())
     }
 }

@@ -1,4 +1,2 @@
-pub mod Choosing
-pub mod Picking
 pub mod Writing
 pub mod Peeling

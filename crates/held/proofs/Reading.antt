@@ -1,6 +1,7 @@
 -- A list read mark by mark: one mark more, a mark that does not rise or is too high, and the end.
 use Rattle.std.proofs.Common.{◌≡◌, ℕ, suc, ◌+◌, ◌<◌, ◌≤◌, Bool, true, false, ◌&&◌, ◌||◌, eqb, ltb, leb, List, length, get_or, drop, sym, ap, ◌∙◌, add-one, arith}
 use mathlib.Core.Path.{fun_ext}
+use Rattle.std.proofs.Math.Bool.{or_assoc, or-false}
 use Rattle.std.proofs.lemmas.List.{at_drop_more, at_drop_all}
 use Rattle.plex.specs.Sets.{Set, only, ◌∪◌, among}
 use Rattle.searching.specs.Computed.{is_rising}
@@ -27,14 +28,8 @@ pub taken_in : (s s' : Set) (list : List ℕ) (i : ℕ) → i < length list → 
     s ∪ among (drop i list) ≡ s' ∪ among (drop (i + 1) list)
 taken_in s s' list i h e =
     at_drop_more (λ xs. s ∪ among xs) list i 0 h
-    ∙ fun_ext (λ j. either_first (s j) (eqb j (get_or list i 0)) (among (drop (i + 1) list) j))
+    ∙ fun_ext (λ j. sym (or_assoc (s j) (eqb j (get_or list i 0)) (among (drop (i + 1) list) j)))
     ∙ ap (λ t. t ∪ among (drop (i + 1) list)) (sym e)
-  where
-    either_first : (a b c : Bool) → (a || (b || c)) ≡ ((a || b) || c)
-    either_first a b c = grind arith
 
 pub all_taken_in : (s : Set) (list : List ℕ) (i : ℕ) → length list ≤ i → s ∪ among (drop i list) ≡ s
-all_taken_in s list i h = at_drop_all (λ xs. s ∪ among xs) list i h ∙ fun_ext (λ j. or_none (s j))
-  where
-    or_none : (a : Bool) → (a || false) ≡ a
-    or_none a = grind arith
+all_taken_in s list i h = at_drop_all (λ xs. s ∪ among xs) list i h ∙ fun_ext (λ j. or-false (s j))

@@ -5,7 +5,8 @@ ghost use Rattle.plex.specs.Words.{holds};
 
 use marks::set::MarkSet;
 
-// A group as a set, and its marks, rising, in the first places; what stands behind them is not read.
+// A group as a set, and its marks, rising, in the first places; what stands behind them is not read. Copying out copies
+// from the array, and no memory is asked for.
 #[derive(Clone, Copy)]
 pub struct Held {
     marks: [u32; 128],

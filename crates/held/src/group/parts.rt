@@ -9,6 +9,7 @@ impl Held {
         ensures { result.set ≡ set }
     {
         let mut marks = [0; 128];
+        // by index: over places lent one by one (`iter_mut().zip`) the loop's invariant does not see what was written
         for (place, mark) in set.rising().enumerate() {
             marks[place] = mark;
         }

@@ -3,9 +3,10 @@ use Rattle.std.specs.List.{list_all}
 use Rattle.std.proofs.lemmas.Iterator.Search.{all_from_yields_List}
 use Rattle.plex.specs.Sets.{rising}
 use Rattle.marks.specs.Members.{members}
+use Rattle.marks.proofs.Coming.{comes}
 use Rattle.tables.specs.Meanings.{bit_meaning}
 use Rattle.ceiling.specs.Formulas.{misses}
-use Rattle.branch.proofs.Listing.{comes, plex_test}
+use Rattle.branch.proofs.Listing.{plex_test}
 use Rattle.branch.proofs.plexes.is_kplex.Goals as goal
 
 pub returns : goal.returns
