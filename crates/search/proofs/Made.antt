@@ -1,5 +1,6 @@
 -- What making puts together is the search that it is to leave.
-use Rattle.std.proofs.Common.{◌≡◌, ℕ, ◌<◌, ◌≤◌, List, [], ◌∷◌, get_or, Ok, Err, Result, refl, ap, ◌∙◌, subst, ap₂, arith}
+use Rattle.std.proofs.Common.{◌≡◌, ℕ, ◌<◌, ◌≤◌, List, [], ◌∷◌, Ok, Err, Result, refl, ap, ◌∙◌, subst, arith}
+use Rattle.std.specs.Result.{IsOk}
 use Rattle.std.proofs.lemmas.Bool.{ltb-true}
 use Rattle.plex.specs.Sets.{Set, card, none, below, Within}
 use Rattle.plex.specs.Meaning.{Meaning}
@@ -15,28 +16,18 @@ use Rattle.searching.specs.States.{State, branch}
 use Rattle.searching.specs.States as states
 use Rattle.searching.specs.Making.{Made}
 use Rattle.searching.proofs.First.{peels_stands}
-use Rattle.plex.specs.Words.{holds}
 use Rattle.coprune.specs.Answers.{pair_places, Remains, CoPrunes}
 use Rattle.coprune.specs.declared.refusal.PruneRefusal.{PruneRefusal}
 use Rattle.coprune.specs.declared.refusal.PruneRefusal.TheVariants.{KOutOfRange, TooFewMarkPlaces, TooFewPairPlaces, FloorTooHigh}
-use Rattle.branch.specs.declared.branches.Branch.{Branch}
-use Rattle.search.specs.Stacks.{no_branch}
-use Rattle.search.specs.View.{opened}
 
 -- co-pruning in enough space is not refused
 pub accepted : (m : Meaning) (k f mark_room pair_room : ℕ) (r : Result ℕ PruneRefusal) (m' : Meaning) (left : Set) → 1 ≤ k → k ≤ 16 →
-    m.marks ≤ mark_room → pair_places m ≤ pair_room → f ≤ 128 → CoPrunes m k f mark_room pair_room r m' left → Remains m k f m' left
-accepted m k f mark_room pair_room (Ok v) m' left low high marks pairs few p = p.remains
+    m.marks ≤ mark_room → pair_places m ≤ pair_room → f ≤ 128 → CoPrunes m k f mark_room pair_room r m' left → IsOk r × Remains m k f m' left
+accepted m k f mark_room pair_room (Ok v) m' left low high marks pairs few p = (refl, p.remains)
 accepted m k f mark_room pair_room (Err KOutOfRange) m' left low high marks pairs few p = absurd (p low high)
 accepted m k f mark_room pair_room (Err TooFewMarkPlaces) m' left low high marks pairs few p = absurd (omega (arith, p.2))
 accepted m k f mark_room pair_room (Err TooFewPairPlaces) m' left low high marks pairs few p = absurd (omega (arith, p.3))
 accepted m k f mark_room pair_room (Err FloorTooHigh) m' left low high marks pairs few p = absurd (omega (arith, p.4))
-
--- a table of which the first branch is open
-pub one_open : (bs : List Branch) (count : ℕ) (first : Branch) (c : Set) → count ≡ 1 → get_or bs 0 no_branch ≡ first → holds first.chosen ≡ none →
-    holds first.candidates ≡ c → opened bs count ≡ branch none c ∷ []
-one_open bs count first c e f g h =
-    ap (opened bs) e ∙ ap₂ (λ x y. branch x y ∷ []) (ap (λ b. holds b.chosen) f ∙ g) (ap (λ b. holds b.candidates) f ∙ h)
 
 module _ (m : Meaning) (k : ℕ) (rule : Number) (copy table : BitTable) (group : MarkSet) (top : ℕ) (branches : List states.Branch)
     (marks : copy.marks ≡ m.marks) (agrees : (bit_meaning copy).agrees ≡ m.agrees)

@@ -1,5 +1,5 @@
 -- The tests of a table of branches hold just where the branches that they mean are well formed.
-use Rattle.std.proofs.Common.{◌≡◌, ℕ, zero, suc, ◌+◌, ◌<◌, ◌≤◌, Bool, true, false, not, ◌&&◌, ◌||◌, ltb, leb, ◌⊎◌, List, sym, ap, subst, inl, inr, arith}
+use Rattle.std.proofs.Common.{◌≡◌, ℕ, zero, suc, ◌+◌, ◌<◌, ◌≤◌, Bool, true, false, not, ◌&&◌, ◌||◌, ltb, leb, ◌⊎◌, List, refl, sym, ap, subst, inl, inr, arith}
 use Rattle.std.proofs.lemmas.Bool.Decides.{nat_tests}
 use Rattle.std.proofs.lemmas.Bool.{cases_lt, cases_eq, or_cases, leb-true, le-leb}
 use Rattle.plex.specs.Sets.{card, Within, is_kplex}
@@ -115,47 +115,7 @@ module _ (bs : List Branch) (count n k : ℕ) (rows : List (List ℕ)) (group : 
             ))
       ]
 
-  module _ (branches : SoundBranches n k (bit_agrees rows) (card n (holds group)) (opened bs count)) where
-    pub chosens_from : (j i : ℕ) → chosen_outside bs count n j i ≡ false
-    unfolding chosen_outside
-    chosens_from j i =
-        elim (cases_lt j count) [
-          | inl l ↦ outside_not (chosen_at bs j i) n i j count ((sound_at count branches j l).chosen i)
-          | inr l ↦ past j count (leb n i && chosen_at bs j i) l
-        ]
-
-    pub candidates_from : (j i : ℕ) → candidate_outside bs count n j i ≡ false
-    unfolding candidate_outside
-    candidates_from j i =
-        elim (cases_lt j count) [
-          | inl l ↦ outside_not (candidates_at bs j i) n i j count ((sound_at count branches j l).candidates i)
-          | inr l ↦ past j count (leb n i && candidates_at bs j i) l
-        ]
-
-    pub apart_from : (j i : ℕ) → in_both bs count j i ≡ false
-    unfolding in_both
-    apart_from j i =
-        elim (cases_lt j count) [
-          | inl l ↦ both_not (candidates_at bs j i) (chosen_at bs j i) (ltb j count) ((sound_at count branches j l).apart i)
-          | inr l ↦ past j count (candidates_at bs j i && chosen_at bs j i) l
-        ]
-
-    pub plex_from : (j : ℕ) → too_large bs count n k rows group j ≡ false
-    unfolding too_large
-    plex_from j =
-        elim (cases_lt j count) [
-          | inl l ↦
-              (let b = sound_at count branches j l in
-              elim b.plex [
-                | inl q ↦ either_not (is_kplex n k (bit_agrees rows) (chosen_at bs j)) (leb (card n (chosen_at bs j)) (card n (holds group))) (ltb j count)
-                    (inl ((kplex_decides n k (bit_agrees rows) (chosen_at bs j) b.chosen).1 q))
-                | inr q ↦ either_not (is_kplex n k (bit_agrees rows) (chosen_at bs j)) (leb (card n (chosen_at bs j)) (card n (holds group))) (ltb j count)
-                    (inr (le-leb (card n (chosen_at bs j)) (card n (holds group)) q))
-              ])
-          | inr l ↦ past j count _ l
-        ]
-
-  pub ordered_from : (m : ℕ) → m ≡ count → Stacked n (opened bs m) → (j : ℕ) → out_of_order bs count n j ≡ false
+  ordered_from : (m : ℕ) → m ≡ count → Stacked n (opened bs m) → (j : ℕ) → out_of_order bs count n j ≡ false
   unfolding out_of_order
   ordered_from zero e h j = past (j + 1) count _ (omega arith)
   ordered_from (suc m) e h j =
@@ -182,6 +142,43 @@ pub inside_within : (n : ℕ) (group : List ℕ) → ((i : ℕ) → held_outside
 unfolding held_outside
 inside_within n group h i t = held_in (holds group i) n i (h i) t
 
-pub inside_from : (n : ℕ) (group : List ℕ) → Within n (holds group) → (i : ℕ) → held_outside n group i ≡ false
-unfolding held_outside
-inside_from n group w i = held_not (holds group i) n i (w i)
+-- the tests of a search's type
+pub record Passes (bs : List Branch) (count n k : ℕ) (rows : List (List ℕ)) (group : List ℕ) : Type 0 where
+  pub chosens : (j i : ℕ) → chosen_outside bs count n j i ≡ false
+  pub candidates : (j i : ℕ) → candidate_outside bs count n j i ≡ false
+  pub apart : (j i : ℕ) → in_both bs count j i ≡ false
+  pub plex : (j : ℕ) → too_large bs count n k rows group j ≡ false
+  pub ordered : (j : ℕ) → out_of_order bs count n j ≡ false
+  pub inside : (i : ℕ) → held_outside n group i ≡ false
+
+-- what is well formed passes them
+pub passes_from : (bs : List Branch) (count n k : ℕ) (rows : List (List ℕ)) (group : List ℕ) →
+    SoundBranches n k (bit_agrees rows) (card n (holds group)) (opened bs count) → Stacked n (opened bs count) → Within n (holds group) → Passes bs count n k rows group
+unfolding chosen_outside candidate_outside in_both too_large held_outside
+passes_from bs count n k rows group branches stacked within = record {
+  chosens = λ j i. elim (cases_lt j count) [
+    | inl l ↦ outside_not (chosen_at bs j i) n i j count ((sound_at bs count n k rows group count branches j l).chosen i)
+    | inr l ↦ past j count (leb n i && chosen_at bs j i) l
+  ];
+  candidates = λ j i. elim (cases_lt j count) [
+    | inl l ↦ outside_not (candidates_at bs j i) n i j count ((sound_at bs count n k rows group count branches j l).candidates i)
+    | inr l ↦ past j count (leb n i && candidates_at bs j i) l
+  ];
+  apart = λ j i. elim (cases_lt j count) [
+    | inl l ↦ both_not (candidates_at bs j i) (chosen_at bs j i) (ltb j count) ((sound_at bs count n k rows group count branches j l).apart i)
+    | inr l ↦ past j count (candidates_at bs j i && chosen_at bs j i) l
+  ];
+  plex = λ j. elim (cases_lt j count) [
+    | inl l ↦
+        (let b = sound_at bs count n k rows group count branches j l in
+        elim b.plex [
+          | inl q ↦ either_not (is_kplex n k (bit_agrees rows) (chosen_at bs j)) (leb (card n (chosen_at bs j)) (card n (holds group))) (ltb j count)
+              (inl ((kplex_decides n k (bit_agrees rows) (chosen_at bs j) b.chosen).1 q))
+          | inr q ↦ either_not (is_kplex n k (bit_agrees rows) (chosen_at bs j)) (leb (card n (chosen_at bs j)) (card n (holds group))) (ltb j count)
+              (inr (le-leb (card n (chosen_at bs j)) (card n (holds group)) q))
+        ])
+    | inr l ↦ past j count _ l
+  ];
+  ordered = ordered_from bs count n k rows group count refl stacked;
+  inside = λ i. held_not (holds group i) n i (within i);
+}

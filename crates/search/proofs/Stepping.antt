@@ -17,8 +17,8 @@ use Rattle.searching.proofs.Choosing.{PickedAt, pick_is}
 use Rattle.searching.proofs.Forming.{split_member, formed_step}
 use Rattle.searching.specs.States as states
 use Rattle.tables.specs.Bits.{bit_agrees}
-use Rattle.search.specs.Stacks.{no_branch, chosen_at, candidates_at, chosen_outside, candidate_outside, in_both, too_large, out_of_order, held_outside}
-use Rattle.search.proofs.Stacks.{chosens_from, candidates_from, apart_from, plex_from, ordered_from, inside_from}
+use Rattle.search.specs.Stacks.{no_branch, chosen_at, candidates_at}
+use Rattle.search.proofs.Stacks.{Passes, passes_from}
 use Rattle.search.specs.View.{opened}
 use Rattle.search.specs.Outcomes.{NoLarger, FallsOut}
 use Rattle.search.specs.declared.searches.stepping.Outcome.TheVariants.{Closes, Takes, Splits}
@@ -117,25 +117,9 @@ pub written_so : (s : State) (h h' : Set) (bs bs' : List states.Branch) (t t' : 
 written_so s h h' bs bs' t t' p q r x =
     subst (λ y. Stepped s (moved s h' bs' y)) r (subst (λ y. Stepped s (moved s h' y t)) q (subst (λ y. Stepped s (moved s y bs t)) p x))
 
--- the tests of a search's type
-pub record Passes (bs : List Branch) (count n k : ℕ) (rows : List (List ℕ)) (group : List ℕ) : Type 0 where
-  pub chosens : (j i : ℕ) → chosen_outside bs count n j i ≡ false
-  pub candidates : (j i : ℕ) → candidate_outside bs count n j i ≡ false
-  pub apart : (j i : ℕ) → in_both bs count j i ≡ false
-  pub plex : (j : ℕ) → too_large bs count n k rows group j ≡ false
-  pub ordered : (j : ℕ) → out_of_order bs count n j ≡ false
-  pub inside : (i : ℕ) → held_outside n group i ≡ false
-
 -- what a step leaves passes them
 pub passes : (s : State) (f : Formed s) (bs : List Branch) (count : ℕ) (rows : List (List ℕ)) (group : List ℕ) (t : ℕ) → s.table ≡ bit_agrees rows →
     Stepped s (moved s (holds group) (opened bs count) t) → Within s.marks (holds group) → Passes bs count s.marks s.k rows group
 passes s f bs count rows group t e x w =
     let g = formed_step s (moved s (holds group) (opened bs count) t) f x in
-    let branches = subst (λ a. SoundBranches s.marks s.k a (card s.marks (holds group)) (opened bs count)) e g.branches in record {
-      chosens = chosens_from bs count s.marks s.k rows group branches;
-      candidates = candidates_from bs count s.marks s.k rows group branches;
-      apart = apart_from bs count s.marks s.k rows group branches;
-      plex = plex_from bs count s.marks s.k rows group branches;
-      ordered = ordered_from bs count s.marks s.k rows group count refl g.stacked;
-      inside = inside_from s.marks group w;
-    }
+    passes_from bs count s.marks s.k rows group (subst (λ a. SoundBranches s.marks s.k a (card s.marks (holds group)) (opened bs count)) e g.branches) g.stacked w

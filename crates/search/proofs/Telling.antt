@@ -1,6 +1,5 @@
 -- What a search says of itself: the open branches, one after the other, counted over 128.
-use Rattle.std.proofs.Common.{◌≡◌, ℕ, zero, suc, ◌+◌, ◌<◌, ◌≤◌, max, true, false, eqb, List, [], ◌∷◌, ◌++◌, length, get_or, take, fold, drop, Some, None, Option, sym, refl, ap, ◌∙◌, ap₂, inl, inr, append-nil, add-one, arith}
-use Rattle.std.proofs.lemmas.Bool.Decides.{nat_tests}
+use Rattle.std.proofs.Common.{◌≡◌, ℕ, zero, suc, ◌+◌, ◌<◌, ◌≤◌, max, true, false, List, [], ◌∷◌, ◌++◌, length, get_or, take, fold, drop, Some, None, Option, sym, refl, ap, ◌∙◌, ap₂, inl, inr, append-nil, add-one, arith}
 use Rattle.std.proofs.lemmas.Bool.{cases_eq}
 use Rattle.std.proofs.lemmas.List.{take_more}
 use Rattle.std.proofs.lemmas.List.Sums.{fold-append}
@@ -98,18 +97,6 @@ module _ {R : Type 0} (s : Search R) (long : length s.branches ≡ 129) where
         capped_sum (steps_for (card n (candidates_at s.branches m))) (steps_over n (opened s.branches m)),
       )
 
-pub none_test : (bs : List Branch) (m : ℕ) → eqb m 0 ≡ none_open (opened bs m)
-none_test bs zero = refl
-none_test bs (suc m) = grind (arith, nat_tests)
-
-pub closed : (bs : List Branch) (m : ℕ) → m ≤ 0 → none_open (opened bs m) ≡ true
-closed bs zero l = refl
-closed bs (suc m) l = absurd (omega arith)
-
-pub not_closed : (bs : List Branch) (m : ℕ) → 0 < m → none_open (opened bs m) ≡ false
-not_closed bs zero l = absurd (omega arith)
-not_closed bs (suc m) l = refl
-
 -- a set of marks below n has the same rising list over more
 pub rising_beyond : (n m : ℕ) (s : Set) → Within n s → n ≤ m → rising m s ≡ rising n s
 unfolding rising
@@ -123,11 +110,11 @@ rising_beyond n (suc m) s w l =
     ]
 
 -- a copy of the group held into places is what a copy-out is to leave
-pub copied_out : {R : Type 0} (number : R → Number) (s : Search R) (places places' : List ℕ) (o : Option ℕ) → s.count ≤ 0 → CopiesInto (held_set s.held) places places' o →
+pub copied_out : {R : Type 0} (number : R → Number) (s : Search R) (places places' : List ℕ) (o : Option ℕ) → none_open (opened s.branches s.count) ≡ true → CopiesInto (held_set s.held) places places' o →
     CopiedOut (view number s) places (ok_or o TooFewPlaces) places'
-copied_out number s places places' None l c = ((closed s.branches s.count l, omega (arith, c.0, held_count s)), c.1)
+copied_out number s places places' None l c = ((l, omega (arith, c.0, held_count s)), c.1)
 copied_out number s places places' (Some count) l c = record {
-  done = closed s.branches s.count l;
+  done = l;
   room = omega (arith, c.0, c.1, held_count s);
   count_is = c.0 ∙ held_count s;
   written =

@@ -1,13 +1,20 @@
 -- What a search starts with. Assumes nothing.
-use Rattle.std.specs.Prelude.{◌≡◌, ℕ, ◌≤◌}
+use Rattle.std.specs.Prelude.{◌≡◌, ℕ, ◌≤◌, List, [], ◌∷◌, Some, None, Option}
 use Rattle.plex.specs.Meaning.{Meaning}
+use Rattle.plex.specs.Words.{holds}
 use Rattle.ceiling.specs.Rules.{Number}
 use Rattle.tables.specs.Meanings.{bit_meaning}
 use Rattle.held.specs.Groups.{held_set}
-use Rattle.searching.specs.States.{State, held_size}
+use Rattle.branch.specs.declared.branches.Branch.{Branch}
+use Rattle.searching.specs.States.{State, held_size, branch}
+use Rattle.searching.specs.States as states
 use Rattle.searching.specs.Making.{Made}
-use Rattle.search.specs.View.{opened}
 use Rattle.search.specs.declared.searches.making.Start.{Start}
+
+-- the branches that are open at the start
+abbrev pub opening : Option Branch → List states.Branch
+opening None = []
+opening (Some b) = branch (holds b.chosen) (holds b.candidates) ∷ []
 
 -- the search with this start
 abbrev pub state_of : Number → ℕ → Start → State
@@ -19,7 +26,7 @@ state_of rule k s = record {
   rule = rule;
   top = s.top;
   held = held_set s.held;
-  branches = opened s.branches s.count;
+  branches = opening s.first_branch;
   taken = 0;
 }
 
@@ -27,4 +34,4 @@ pub record Starts (m : Meaning) (k : ℕ) (s : Start) : Type 0 where
   pub alike : s.table.marks ≡ s.sheet.marks
   pub made : (rule : Number) → Made m k rule (state_of rule k s)
   -- nothing is co-pruned if no branch is opened
-  pub closed : (rule : Number) → s.top ≤ held_size (state_of rule k s) → s.count ≡ 0
+  pub closed : (rule : Number) → s.top ≤ held_size (state_of rule k s) → s.first_branch ≡ None

@@ -24,7 +24,7 @@ impl MakeRefusal {
     }
 }
 
-// The number of a call's refusal. No method: the enum stands in the theory below.
+// The number of a call's refusal. No method: the enum stands in the theory below, whose functions are theorems.
 pub fn number_of(refusal: SearchRefusal) -> u32
     ensures { result ≡ call_number refusal }
 {

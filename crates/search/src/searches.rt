@@ -16,7 +16,8 @@ pub struct Search<R> {
     sheet: BitTable,
     table: BitTable,
     held: Held,
-    // the open branches, the newest last: a table of 129, as the rules say, with its count
+    // the open branches, the newest last, and how many: at most one branch more than there are marks is ever open, and no
+    // memory is asked for
     branches: [Branch; 129],
     count: usize,
     ghost alike: { table.marks ≡ sheet.marks },

@@ -1,8 +1,8 @@
 // Making a search.
-ghost use Rattle.std.specs.Prelude.{◌≡◌, ◌≤◌, length, slice_index_or};
+ghost use Rattle.std.specs.Prelude.{◌≡◌, ◌≤◌, length, None};
 ghost use Rattle.coprune.specs.Answers.{pair_places};
-ghost use Rattle.search.specs.Stacks.{no_branch};
-ghost use Rattle.search.specs.Starting.{Starts};
+ghost use Rattle.search.specs.Starting.{Starts, opening};
+ghost use Rattle.search.specs.View.{opened};
 ghost use Rattle.search.specs.Making.{Making, Spaces};
 
 use super::Search;
@@ -17,11 +17,16 @@ use rule::rules::CeilingRule;
 use sheet::kinds::Sheet;
 use tables::bits::BitTable;
 
-// A table of branches that begins with this one.
-fn table_of(first: Branch) -> [Branch; 129]
-    ensures { slice_index_or result 0 no_branch ≡ first }
+// The table of open branches that begins with this one, if it is one, and how many they are. A function, so that its
+// caller is told of what is open and not of 129 places.
+fn table_of(branch: Option<Branch>) -> ([Branch; 129], usize)
+    ensures { opened result.0 result.1 ≡ opening branch }
 {
-    [first; 129]
+    let none = Branch {
+        chosen: [0; 4],
+        candidates: [0; 4],
+    };
+    ([branch.unwrap_or(none); 129], usize::from(branch.is_some()))
 }
 
 impl<R: CeilingRule> Search<R> {
@@ -51,9 +56,9 @@ impl<R: CeilingRule> Search<R> {
             sheet,
             table,
             held,
-            branches,
-            count,
+            first_branch,
         } = first_state(sheet, k, mark_space, pair_space);
+        let (branches, count) = table_of(first_branch);
         Ok(Search {
             rule,
             k,
@@ -75,8 +80,8 @@ pub(crate) struct Start {
     sheet: BitTable,
     table: BitTable,
     held: Held,
-    branches: [Branch; 129],
-    count: usize,
+    // the branch that is opened, if one is
+    first_branch: Option<Branch>,
 }
 
 // Copies the sheet, finds the first group, and opens a branch if a larger one is not ruled out.
@@ -91,27 +96,26 @@ fn first_state<S: Sheet>(
     requires marks { (S.Sheet.meaning sheet.now).marks ≤ length mark_space.old }
     requires pairs { pair_places (S.Sheet.meaning sheet.now) ≤ length pair_space.old }
     ensures made { Starts (S.Sheet.meaning sheet.now) k result }
-    ensures idle { result.count ≡ 0 → (mark_space.new ≡ mark_space.old) × (pair_space.new ≡ pair_space.old) }
+    ensures idle { result.first_branch ≡ None → (mark_space.new ≡ mark_space.old) × (pair_space.new ≡ pair_space.old) }
 {
     let copy = BitTable::copy_of(sheet);
     let first = first_group(&copy, k);
     let floor = first.group.count();
     let mut table = copy;
-    let mut left = MarkSet::empty();
-    let mut count = 0;
+    let mut first_branch = None;
     if floor < first.top {
-        let _ = co_prune(&mut table, k, floor, &mut left, mark_space, pair_space);
-        count = 1;
+        let mut left = MarkSet::empty();
+        co_prune(&mut table, k, floor, &mut left, mark_space, pair_space).unwrap();
+        first_branch = Some(Branch {
+            chosen: [0; 4],
+            candidates: left.words(),
+        });
     }
     Start {
         top: first.top,
         sheet: copy,
         table,
         held: Held::of(first.group),
-        branches: table_of(Branch {
-            chosen: [0; 4],
-            candidates: left.words(),
-        }),
-        count,
+        first_branch,
     }
 }

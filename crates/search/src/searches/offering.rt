@@ -1,5 +1,5 @@
 // Offers of groups from outside.
-ghost use Rattle.std.specs.Prelude.{◌≡◌, false, is_ok};
+ghost use Rattle.std.specs.Prelude.{◌≡◌, OnErr};
 ghost use Rattle.searching.specs.Calls.{Does, Offer};
 ghost use Rattle.search.specs.Offers.{Judged};
 ghost use Rattle.search.specs.View.{view};
@@ -17,7 +17,7 @@ impl<R: CeilingRule> Search<R> {
     // Holds the marks of a strictly rising list from now on, if they are a larger k-plex of the sheet.
     pub fn offer(&mut self, marks: &[u32]) -> Result<u32, SearchRefusal>
         ensures does { Does (view R.CeilingRule.number self.old) (Offer marks.now) result (view R.CeilingRule.number self.new) }
-        ensures unchanged { is_ok result ≡ false → self.new ≡ self.old }
+        ensures unchanged { OnErr result (self.new ≡ self.old) }
     {
         let group = self.judge(marks)?;
         self.held = Held::of(group);

@@ -15,7 +15,7 @@ use marks::set::MarkSet;
 use rule::rules::CeilingRule;
 use tables::bits::BitTable;
 
-// What becomes of a branch: an enum and no closure, since all three are known here.
+// What becomes of a branch. An enum and no closure: there are just these three.
 #[derive(Clone, Copy)]
 pub(crate) enum Outcome {
     // nothing larger than the group held lies in it
@@ -52,11 +52,11 @@ fn outcome_of<R: CeilingRule>(
 }
 
 impl<R: CeilingRule> Search<R> {
-    // One step: 1, or 0 where the search is settled.
+    // One step: 1, or 0 where the search is settled, as the rules say.
     pub fn step(&mut self) -> u32
         ensures { Does (view R.CeilingRule.number self.old) Step result (view R.CeilingRule.number self.new) }
     {
-        if self.count == 0 {
+        if self.is_settled() {
             return 0;
         }
         self.take_step();

@@ -3,7 +3,7 @@ ghost use Rattle.std.specs.Prelude.{◌≡◌, ◌+◌, take};
 ghost use Rattle.plex.specs.Sets.{card};
 ghost use Rattle.plex.specs.Words.{holds};
 ghost use Rattle.searching.specs.Calls.{Does, Report, Tally as TallyCall, CopyOut};
-ghost use Rattle.searching.specs.States.{capped};
+ghost use Rattle.searching.specs.States.{capped, settled};
 ghost use Rattle.search.specs.View.{view};
 
 use super::Search;
@@ -28,7 +28,7 @@ fn width_of(branch: Branch) -> u32
     MarkSet::from_words(branch.chosen).count() + candidates_in(branch)
 }
 
-// A count of 32 bits never passes the cap.
+// As a parameter the count is known to have 32 bits, so it never passes the cap.
 fn as_capped(count: u32) -> u32
     ensures { result ≡ capped count }
 {
@@ -41,6 +41,13 @@ impl<R: CeilingRule> Search<R> {
         ensures { result.now ≡ take self.now.count self.now.branches }
     {
         &self.branches[..self.count]
+    }
+
+    // Whether no branch is open.
+    pub(crate) fn is_settled(&self) -> bool
+        ensures { result ≡ settled (view R.CeilingRule.number self.now) }
+    {
+        self.count == 0
     }
 
     // The size of the group held, and a number of marks that no k-plex of the sheet exceeds.
@@ -65,7 +72,7 @@ impl<R: CeilingRule> Search<R> {
         Tally {
             taken: as_capped(self.taken),
             left,
-            settled: self.count == 0,
+            settled: self.is_settled(),
         }
     }
 
@@ -73,7 +80,7 @@ impl<R: CeilingRule> Search<R> {
     pub fn copy_out(&self, places: &mut [u32]) -> Result<u32, SearchRefusal>
         ensures { Does (view R.CeilingRule.number self.now) (CopyOut places.old) (result, places.new) (view R.CeilingRule.number self.now) }
     {
-        if self.count > 0 {
+        if !self.is_settled() {
             return Err(SearchRefusal::NotSettled);
         }
         self.held
