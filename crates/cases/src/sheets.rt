@@ -33,19 +33,20 @@ fn answer(entered: Result<u32, EntryRefusal>) -> u32 {
 // A pentagon, entered in words that hold something else, one pair twice.
 pub fn entered(rt: &HostRuntime) -> io::Result<()> {
     let mut words = [0xffff_ffff; 7];
-    if let Ok(mut entry) = Entry::begin(&mut words, 5) {
-        let first = answer(entry.enter(0, 1));
-        let again = answer(entry.enter(1, 0));
-        println!(rt; "entered {first}, again {again}")?;
-        for (i, j) in [(0, 4), (1, 2), (2, 3), (3, 4)] {
-            let _ = entry.enter(i, j);
-        }
-        let outside = answer(entry.enter(5, 5));
-        let same = answer(entry.enter(4, 4));
-        println!(rt; "a mark outside {outside}, the same mark {same}")?;
-        let sheet = entry.seal();
-        show(rt, "entered pentagon", &sheet)?;
+    let Ok(mut entry) = Entry::begin(&mut words, 5) else {
+        return println!(rt; "entered pentagon: not begun");
+    };
+    let first = answer(entry.enter(0, 1));
+    let again = answer(entry.enter(1, 0));
+    println!(rt; "entered {first}, again {again}")?;
+    for (i, j) in [(0, 4), (1, 2), (2, 3), (3, 4)] {
+        let _ = entry.enter(i, j);
     }
+    let outside = answer(entry.enter(5, 5));
+    let same = answer(entry.enter(4, 4));
+    println!(rt; "a mark outside {outside}, the same mark {same}")?;
+    let sheet = entry.seal();
+    show(rt, "entered pentagon", &sheet)?;
     let last = words[6];
     println!(rt; "a word behind the rows {last:x}")
 }
@@ -112,49 +113,42 @@ pub fn pairs(rt: &HostRuntime) -> io::Result<()> {
 
 // Pairs whose marks stand in each of the four words of a row.
 fn wide(rt: &HostRuntime) -> io::Result<()> {
-    if let Ok(sheet) = PairSheet::read(&[
-        0x10000180, 0x2000007F, 0x2007C020, 0x2007C060, 0xF0000003,
-    ]) {
-        for i in [0u32, 31, 127] {
-            show_mark(rt, &sheet, i, 128)?;
-        }
+    let Ok(sheet) = PairSheet::read(&[0x10000180, 0x2000007F, 0x2007C020, 0x2007C060, 0xF0000003])
+    else {
+        return println!(rt; "wide pairs: refused");
+    };
+    for i in [0u32, 31, 127] {
+        show_mark(rt, &sheet, i, 128)?;
     }
     Ok(())
 }
 
+// A measured file of two marks, each by the words of its planned and seen point.
+fn measured_pair(tolerance: u32, first: [u32; 4], second: [u32; 4]) -> [u32; 11] {
+    let head = 0x10000102;
+    let tolerance = 0x7000_0000 + tolerance % 0x1000_0000;
+    let end = 0xF000_0002;
+    let [a, b, c, d] = first;
+    let [e, f, g, h] = second;
+    [head, tolerance, a, b, c, d, e, f, g, h, end]
+}
+
 // Planned (0, 0, 0) and (3, 4, 0), seen (0, 0, 0) and (0, 0, 6): the squares are 25 and 36.
 fn distances(tolerance: u32) -> [u32; 11] {
-    let [zero_xy, zero_z] = [0x3000_0000, 0x4000_0000];
-    [
-        0x10000102,
-        0x7000_0000 + tolerance % 0x1000_0000,
-        zero_xy,
-        zero_z,
-        0x5000_0000,
-        0x6000_0000,
-        0x3000_C004,
-        zero_z,
-        0x5000_0000,
-        0x6000_0006,
-        0xF000_0002,
-    ]
+    measured_pair(
+        tolerance,
+        [0x3000_0000, 0x4000_0000, 0x5000_0000, 0x6000_0000],
+        [0x3000_C004, 0x4000_0000, 0x5000_0000, 0x6000_0006],
+    )
 }
 
 // Planned at both ends of the range, seen at one place: the planned square is 805208067.
 fn ends_of_range(tolerance: u32) -> [u32; 11] {
-    [
-        0x10000102,
-        0x7000_0000 + tolerance % 0x1000_0000,
-        0x3800_2000,
-        0x4000_2000,
-        0x5000_0000,
-        0x6000_0000,
-        0x37ff_dfff,
-        0x4000_1fff,
-        0x5000_0000,
-        0x6000_0000,
-        0xF000_0002,
-    ]
+    measured_pair(
+        tolerance,
+        [0x3800_2000, 0x4000_2000, 0x5000_0000, 0x6000_0000],
+        [0x37ff_dfff, 0x4000_1fff, 0x5000_0000, 0x6000_0000],
+    )
 }
 
 pub fn measured(rt: &HostRuntime) -> io::Result<()> {

@@ -58,6 +58,7 @@ pub fn show_cases(rt: &HostRuntime, found: Option<Found>) -> io::Result<()> {
     println!(rt; "; {cases} cases, the rules apply in {applied}")
 }
 
+// As in the program of the prunings, and not shared: nothing can be proved of what is printed.
 fn show_numbers(rt: &HostRuntime, found: Option<Found>) -> io::Result<()> {
     match found {
         Some(found) => print!(rt; " {found}"),

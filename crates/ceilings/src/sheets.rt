@@ -10,23 +10,18 @@ use trials::sheets::table;
 
 // Asks about a ring of five marks, the sets given as bits.
 fn about_ring(rt: &HostRuntime, k: u32, chosen: u32, candidates: u32) -> io::Result<()> {
-    let mut agreed = Agreed::none();
-    for i in 0..5 {
-        agreed.set(i, (i + 1) % 5, true);
-    }
+    let agreed = Agreed::ring(5);
     print!(rt; "pentagon, k {k}, S {chosen:05b}, C {candidates:05b}:")?;
-    match table(5, |i, j| agreed.has(i, j)) {
-        Ok(table) => {
-            let asked = Asked {
-                agreed: &agreed,
-                k,
-                chosen,
-                candidates,
-            };
-            show(rt, compared(&table, asked))
-        }
-        Err(_) => println!(rt; " NO TABLE"),
-    }
+    let Ok(table) = table(5, |i, j| agreed.has(i, j)) else {
+        return println!(rt; " NO TABLE");
+    };
+    let asked = Asked {
+        agreed: &agreed,
+        k,
+        chosen,
+        candidates,
+    };
+    show(rt, compared(&table, asked))
 }
 
 pub fn worked(rt: &HostRuntime) -> io::Result<()> {
@@ -43,13 +38,14 @@ pub fn worked(rt: &HostRuntime) -> io::Result<()> {
 
 // 128 marks that all agree but for each second one with the last: marks of all four words.
 pub fn far_apart(rt: &HostRuntime) -> io::Result<()> {
-    if let Ok(table) = table(128, |i, j| j < 127 || i % 2 == 0) {
-        let chosen = MarkSet::from_words([1, 2, 4, 0x8000_0000]);
-        let all = MarkSet::from_words([0xFFFF_FFFF; 4]);
-        for k in [1u32, 2, 3] {
-            print!(rt; "128 marks, k {k}:")?;
-            show(rt, answers(k, &table, chosen, all))?;
-        }
+    let Ok(table) = table(128, |i, j| j < 127 || i % 2 == 0) else {
+        return println!(rt; "128 marks: NO TABLE");
+    };
+    let chosen = MarkSet::from_words([1, 2, 4, 0x8000_0000]);
+    let all = MarkSet::from_words([0xFFFF_FFFF; 4]);
+    for k in [1u32, 2, 3] {
+        print!(rt; "128 marks, k {k}:")?;
+        show(rt, answers(k, &table, chosen, all))?;
     }
     Ok(())
 }
@@ -60,9 +56,10 @@ pub fn generated(rt: &HostRuntime, marks: u32) -> io::Result<()> {
     for tenths in [3u32, 6, 9] {
         let agreed = Agreed::by_chance(marks, tenths, &mut chance);
         print!(rt; "{marks} marks, {tenths} tenths:")?;
-        if let Ok(table) = table(marks, |i, j| agreed.has(i, j)) {
-            show_cases(rt, about(marks, &table, &agreed, chance))?;
-        }
+        let Ok(table) = table(marks, |i, j| agreed.has(i, j)) else {
+            return println!(rt; " NO TABLE");
+        };
+        show_cases(rt, about(marks, &table, &agreed, chance))?;
     }
     Ok(())
 }

@@ -10,7 +10,8 @@ use tables::bits::BitTable;
 use tables::pairs::{PairTable, TableRefusal};
 use trials::sheets::{sheet, table};
 
-// The number that a call answers, accepted or refused.
+// The number that a call answers, accepted or refused. Only numbers are printed, so a refusal is its number in this file,
+// of whichever call it is.
 fn number(answer: Result<u32, u32>) -> u32 {
     answer.unwrap_or_else(|refusal| refusal)
 }
@@ -81,11 +82,12 @@ fn struck<S: Strike>(rt: &HostRuntime, name: &str, table: &mut S) -> io::Result<
 
 pub fn strikes(rt: &HostRuntime) -> io::Result<()> {
     let mut words = [0; 5];
-    if let Ok(sheet) = sheet(&mut words, 5, on_path) {
-        struck(rt, "bit table", &mut BitTable::copy_of(&sheet))?;
-        if let Ok(mut pairs) = PairTable::copy_of(&sheet) {
-            struck(rt, "pair table", &mut pairs)?;
-        }
-    }
-    Ok(())
+    let Ok(sheet) = sheet(&mut words, 5, on_path) else {
+        return println!(rt; "five marks on a path: NO SHEET");
+    };
+    struck(rt, "bit table", &mut BitTable::copy_of(&sheet))?;
+    let Ok(mut pairs) = PairTable::copy_of(&sheet) else {
+        return println!(rt; "pair table: NO TABLE");
+    };
+    struck(rt, "pair table", &mut pairs)
 }

@@ -45,7 +45,8 @@ impl fmt::Display for Left {
     }
 }
 
-// Prints what is left, if everything is as the listing says.
+// Prints what is left, if everything is as the listing says. As in the program of the ceilings, and not shared: nothing can
+// be proved of what is printed.
 pub fn show(rt: &HostRuntime, left: Option<Left>) -> io::Result<()> {
     match left {
         Some(left) => println!(rt; " {left}"),
@@ -71,20 +72,20 @@ fn compared<S: Sheet>(table: &S, left: MarkSet, ends: usize, must: &Agreed<12>) 
 }
 
 // Co-prunes a table and compares it with the listing.
-fn pruned<S: Strike>(table: &mut S, all: &Agreed<12>, k: u32, floor: u32) -> Option<Left> {
-    let bounds = Bounds::new(k, floor);
+fn pruned<S: Strike>(table: &mut S, all: &Agreed<12>, bounds: Bounds) -> Option<Left> {
+    let Bounds { k, floor } = bounds;
     let mut left = MarkSet::empty();
     let mut marks = [0; 128];
     let mut pairs = [Pair { a: 0, b: 0 }; 66];
     co_prune(table, k, floor, &mut left, &mut marks, &mut pairs).ok()?;
-    compared(table, left, bounds.ends, &bounds.prune(all))
+    compared(table, left, bounds.ends(), &bounds.prune(all))
 }
 
 // Co-prunes a sheet in both kinds of table.
-fn left_of<S: Sheet>(sheet: &S, all: &Agreed<12>, k: u32, floor: u32) -> Option<Left> {
+fn left_of<S: Sheet>(sheet: &S, all: &Agreed<12>, bounds: Bounds) -> Option<Left> {
     let mut bits = BitTable::copy_of(sheet);
     let mut pairs = PairTable::copy_of(sheet).ok()?;
-    Some(pruned(&mut bits, all, k, floor)? + pruned(&mut pairs, all, k, floor)?)
+    Some(pruned(&mut bits, all, bounds)? + pruned(&mut pairs, all, bounds)?)
 }
 
 // Co-prunes the sheet of some agreements for each floor.
@@ -93,7 +94,7 @@ pub fn left_for(marks: u32, all: &Agreed<12>, k: u32, floors: Range<u32>) -> Opt
     let sheet = sheet(&mut words, marks, |i, j| all.has(i, j)).ok()?;
     let mut total = Left::default();
     for floor in floors {
-        total = total + left_of(&sheet, all, k, floor)?;
+        total = total + left_of(&sheet, all, Bounds { k, floor })?;
     }
     Some(total)
 }

@@ -11,26 +11,35 @@ fn shared(all: &Agreed<12>, i: u32, j: u32) -> usize {
     (0..12).filter(|m| all.has(i, *m) && all.has(j, *m)).count()
 }
 
-// How many marks must agree with each end of an agreement, and how many with both, for it to stay.
+// What agreements are pruned for: groups for k, of more marks than the floor.
 #[derive(Clone, Copy)]
 pub struct Bounds {
-    pub ends: usize,
-    pub shared: usize,
+    pub k: u32,
+    pub floor: u32,
 }
 
 impl Bounds {
-    pub fn new(k: u32, floor: u32) -> Bounds {
-        let more = (floor as usize).saturating_add(1);
-        Bounds {
-            ends: more.saturating_sub(k as usize),
-            shared: more.saturating_sub((k as usize).saturating_mul(2)),
-        }
+    // How many marks the smallest group above the floor has, less so many.
+    fn smallest_less(self, fewer: usize) -> usize {
+        (self.floor as usize)
+            .saturating_add(1)
+            .saturating_sub(fewer)
+    }
+
+    // How many marks must agree with each end of an agreement for it to stay.
+    pub fn ends(self) -> usize {
+        self.smallest_less(self.k as usize)
+    }
+
+    // How many marks must agree with both ends.
+    fn shared(self) -> usize {
+        self.smallest_less((self.k as usize).saturating_mul(2))
     }
 
     fn keep(self, all: &Agreed<12>, i: u32, j: u32) -> bool {
-        degree(all, i) >= self.ends
-            && degree(all, j) >= self.ends
-            && shared(all, i, j) >= self.shared
+        degree(all, i) >= self.ends()
+            && degree(all, j) >= self.ends()
+            && shared(all, i, j) >= self.shared()
     }
 
     // What is left after one round, in which all agreements that fail are struck at once.

@@ -6,10 +6,7 @@ use trials::chance::Chance;
 
 // A ring of five marks, and a path of four.
 pub fn worked(rt: &HostRuntime) -> io::Result<()> {
-    let mut ring = Agreed::none();
-    for i in 0..5 {
-        ring.set(i, (i + 1) % 5, true);
-    }
+    let ring = Agreed::ring(5);
     print!(rt; "pentagon, k 2, floor 3:")?;
     show(rt, left_for(5, &ring, 2, 3..4))?;
     print!(rt; "pentagon, k 2, floor 4:")?;

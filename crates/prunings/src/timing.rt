@@ -12,19 +12,17 @@ use trials::sheets::table;
 // how many marks are left.
 fn time(rt: &HostRuntime, tenths: u32, k: u32, floor: u32) -> io::Result<()> {
     let all = Agreed::<128>::by_chance(128, tenths, &mut Chance::from_seed(tenths));
-    if let Ok(mut table) = table(128, |i, j| all.has(i, j)) {
-        let mut left = MarkSet::empty();
-        let mut marks = [0; 128];
-        let mut pairs = [Pair { a: 0, b: 0 }; 8128];
-        let start = Instant::now(rt)?;
-        let _ = co_prune(&mut table, k, floor, &mut left, &mut marks, &mut pairs);
-        let took = start.elapsed(rt)?.as_micros();
-        let count = left.count();
-        println!(rt;
-            "{tenths} tenths, k {k}, floor {floor}: {took} microseconds, {count} marks left"
-        )?;
-    }
-    Ok(())
+    let Ok(mut table) = table(128, |i, j| all.has(i, j)) else {
+        return println!(rt; "{tenths} tenths: NO TABLE");
+    };
+    let mut left = MarkSet::empty();
+    let mut marks = [0; 128];
+    let mut pairs = [Pair { a: 0, b: 0 }; 8128];
+    let start = Instant::now(rt)?;
+    let _ = co_prune(&mut table, k, floor, &mut left, &mut marks, &mut pairs);
+    let took = start.elapsed(rt)?.as_micros();
+    let count = left.count();
+    println!(rt; "{tenths} tenths, k {k}, floor {floor}: {took} microseconds, {count} marks left")
 }
 
 pub fn times(rt: &HostRuntime) -> io::Result<()> {

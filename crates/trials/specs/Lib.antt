@@ -1,1 +1,4 @@
+pub mod Drawn
+pub mod Entries
 pub mod Following
+pub mod Noted
