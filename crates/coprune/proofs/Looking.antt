@@ -5,15 +5,12 @@ use Rattle.plex.specs.Sets.{Set, none, only, ◌∖◌}
 use Rattle.plex.specs.Meaning.{Meaning}
 use Rattle.coprune.specs.declared.limits.Limits.{Limits}
 use Rattle.coprune.specs.Coprune.{Worn, bad, Looks, LooksAmong}
-use Rattle.coprune.proofs.Wearing.{worn_none, worn_on}
+use Rattle.coprune.proofs.Wearing.{worn_on}
 
 -- those of the others that are not in the rest were looked at
 pub record Looked (l : Limits) (i : ℕ) (others rest : Set) (was_struck : Bool) (m m' : Meaning) : Type 0 where
   pub worn : Worn l was_struck m m'
   pub fine : was_struck ≡ false → (j : ℕ) → others j ≡ true → (rest j ≡ true) ⊎ (bad l m i j ≡ false)
-
-pub looked_none : (l : Limits) (i : ℕ) (others : Set) (m : Meaning) → Looked l i others others false m m
-looked_none l i others m = record { worn = worn_none l m; fine = λ _ j t. inl t }
 
 module _ (l : Limits) (i : ℕ) (others rest : Set) (was : Bool) (m m' : Meaning) (so_far : Looked l i others rest was m m') where
   -- one more was looked at

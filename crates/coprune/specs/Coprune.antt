@@ -28,7 +28,7 @@ at_ends m = agreements_at_ends m.marks m.agrees
 abbrev pub bad : Limits → Meaning → ℕ → ℕ → Bool
 bad l m i j = m.agrees i j && offends m.marks l.ends l.shared m.agrees i j
 
--- some agreements that may not stay were struck, and fewer are left if any was
+-- only agreements that may not stay were struck; where it says so, one was, and fewer are left
 pub record Worn (l : Limits) (was_struck : Bool) (m m' : Meaning) : Type 0 where
   pub wears : Wears l m m'
   pub fewer : was_struck ≡ true → at_ends m' < at_ends m

@@ -53,7 +53,7 @@ pub fn co_prune<S: Strike>(
 pub fn pair_places<S: Sheet>(sheet: &S) -> u32
     ensures { result ≡ pair_places (S.Sheet.meaning sheet.now) }
 {
-    // kept from mark to mark: the marks below each, made anew, take twice as long
+    // kept from mark to mark: made anew for each, the marks below it take more than twice as long
     let mut seen = MarkSet::empty();
     let mut count = 0;
     for i in 0..sheet.marks() {

@@ -12,7 +12,7 @@ use sheet::kinds::{Sheet, Strike, neighbours};
 pub(crate) fn sweep<S: Strike>(sheet: &mut S, limits: Limits, waiting: &mut Waiting) -> bool
     ensures { Strikes S.Strike (Sweeps limits result) sheet.old sheet.new }
 {
-    // kept from mark to mark: the marks below each, made anew, take twice as long
+    // kept from mark to mark: made anew for each, the marks below it take more than twice as long
     let mut seen = MarkSet::empty();
     // not by `any`, which would end at the first strike
     let mut struck = false;

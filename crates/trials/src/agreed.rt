@@ -39,7 +39,7 @@ impl<const N: usize> Agreed<N> {
     }
 
     // Each pair of so many marks agrees in so many tenths of all cases. For a mark with itself a number is drawn too,
-    // which sets nothing: what the programs must print was made so.
+    // which sets nothing: the stored outputs of the programs were made so.
     pub fn by_chance(marks: u32, tenths: u32, chance: &mut Chance) -> Agreed<N>
         ensures draws { chance.new.state ≡ drawn (draws_below marks marks) chance.old.state }
         ensures agreement { (p q : ℕ) → noted result.agrees p q ≡ by_chance N marks tenths chance.old.state p q }

@@ -17,8 +17,8 @@ use rule::rules::CeilingRule;
 use sheet::kinds::Sheet;
 use tables::bits::BitTable;
 
-// The table of open branches that begins with this one, if it is one, and how many they are. A function, so that its
-// caller is told of what is open and not of 129 places.
+// The table of branches with this one open, or with none, and how many are open. A function, so that its caller is told what
+// is open and not what each of 129 places holds.
 fn table_of(branch: Option<Branch>) -> ([Branch; 129], usize)
     ensures { opened result.0 result.1 ≡ opening branch }
 {

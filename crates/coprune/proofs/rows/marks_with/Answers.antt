@@ -1,15 +1,8 @@
-use Rattle.std.proofs.Common.{◌≡◌, ℕ, Bool, true, false, ◌&&◌, leb, min, rules, ap, ◌∙◌, arith}
-use mathlib.Core.Path.{fun_ext}
-use Rattle.plex.specs.Sets.{Set, card, below}
+use Rattle.std.proofs.Common.{◌≡◌, ℕ, Bool, ◌&&◌, leb, min, rules, ap, ◌∙◌, arith}
+use Rattle.plex.specs.Sets.{card, below}
 use Rattle.marks.specs.Members.{members}
+use Rattle.marks.proofs.Filtering.{kept_by}
 use Rattle.coprune.proofs.rows.marks_with.Goals as goal
-
--- the marks of a set that a test keeps
-kept_by : (s t : Set) (test : ℕ → Bool) → ((v : ℕ) → (s v ≡ true → t v ≡ test v) × (s v ≡ false → t v ≡ false)) → t ≡ (λ v. s v && test v)
-kept_by s t test f = fun_ext (λ v. at (s v) (t v) (test v) (f v))
-  where
-    at : (x y z : Bool) → (x ≡ true → y ≡ z) × (x ≡ false → y ≡ false) → y ≡ (x && z)
-    at x y z h = grind arith
 
 pub returns : goal.returns
 returns g c =
