@@ -95,13 +95,17 @@ pub fn compared(table: &BitTable, asked: Asked) -> Option<Found> {
         MarkSet::from_words([asked.chosen, 0, 0, 0]),
         MarkSet::from_words([asked.candidates, 0, 0, 0]),
     )?;
-    let degree = asked.by_degree();
-    let pair = asked.by_pair();
+    let applies = asked.applies();
+    let (degree, pair) = if applies {
+        (asked.by_degree(), asked.by_pair())
+    } else {
+        (asked.all(), asked.all())
+    };
     let same = found.degree as usize == degree
         && found.pair as usize == pair
         && found.smaller as usize == degree.min(pair);
     same.then_some(Found {
-        applied: u32::from(asked.applies()),
+        applied: u32::from(applies),
         ..found
     })
 }

@@ -16,6 +16,15 @@ fn has(mask: u32, mark: u32) -> bool {
     (mask >> mark.min(31)) & 1 == 1
 }
 
+// How many marks pass a test. Not by `filter` and `count`, which take more than twice as long (see `prunings`).
+fn count<F: Fn(u32) -> bool>(test: F) -> usize
+    requires { F.IsAlwaysCallable test }
+{
+    (0..12)
+        .map(|mark| usize::from(test(mark)))
+        .fold(0, usize::saturating_add)
+}
+
 impl Asked<'_> {
     fn is_chosen(&self, u: u32) -> bool {
         has(self.chosen, u)
@@ -28,28 +37,27 @@ impl Asked<'_> {
 
     // How many chosen marks there are.
     fn size(&self) -> usize {
-        (0..12).filter(|u| self.is_chosen(*u)).count()
+        count(|u| self.is_chosen(u))
+    }
+
+    // How many marks there are, chosen or other: the number of a rule that does not apply.
+    pub fn all(&self) -> usize {
+        count(|u| self.is_chosen(u) || self.is_other(u))
     }
 
     // How many chosen marks agree with u.
     fn near(&self, u: u32) -> usize {
-        (0..12)
-            .filter(|v| self.is_chosen(*v) && self.agreed.has(u, *v))
-            .count()
+        count(|v| self.is_chosen(v) && self.agreed.has(u, v))
     }
 
     // How many of the others agree with u.
     fn others_near(&self, u: u32) -> usize {
-        (0..12)
-            .filter(|v| self.is_other(*v) && self.agreed.has(u, *v))
-            .count()
+        count(|v| self.is_other(v) && self.agreed.has(u, v))
     }
 
     // How many of the others agree with both u and v.
     fn others_near_both(&self, u: u32, v: u32) -> usize {
-        (0..12)
-            .filter(|w| self.is_other(*w) && self.agreed.has(u, *w) && self.agreed.has(v, *w))
-            .count()
+        count(|w| self.is_other(w) && self.agreed.has(u, w) && self.agreed.has(v, w))
     }
 
     // Whether the rules apply: k is from 1 to 16, and each chosen mark agrees with at least all but k of them.
@@ -58,48 +66,38 @@ impl Asked<'_> {
         1 <= self.k && self.k <= 16 && (0..12).all(|u| !self.is_chosen(u) || self.near(u) >= least)
     }
 
-    // What u may still miss of the chosen marks.
-    fn spare(&self, u: u32) -> usize {
-        let missed = self.size().saturating_sub(self.near(u));
+    // What u may still miss of so many chosen marks.
+    fn spare(&self, size: usize, u: u32) -> usize {
+        let missed = size.saturating_sub(self.near(u));
         (self.k as usize).saturating_sub(missed)
     }
 
-    // A rule's number: the lowest that it gives, or all marks where it does not apply or gives none.
-    fn number(&self, lowest: Option<usize>) -> usize {
-        match lowest {
-            Some(number) if self.applies() => number,
-            _ => (0..12)
-                .filter(|u| self.is_chosen(*u) || self.is_other(*u))
-                .count(),
-        }
-    }
-
-    // The degree rule's number.
+    // The degree rule's number where it applies: the lowest that it gives, or all marks if it gives none.
     pub fn by_degree(&self) -> usize {
         let numbers = (0..12).filter(|u| self.is_chosen(*u)).map(|u| {
             (self.k as usize)
                 .saturating_add(self.near(u))
                 .saturating_add(self.others_near(u))
         });
-        self.number(numbers.min())
+        numbers.min().unwrap_or(self.all())
     }
 
-    // The pair rule's number.
+    // The pair rule's number, likewise.
     pub fn by_pair(&self) -> usize {
+        let size = self.size();
         let numbers = (0..12)
             .filter(|u| self.is_chosen(*u))
-            .filter_map(|u| self.by_pairs_with(u));
-        self.number(numbers.min())
+            .filter_map(|u| self.by_pairs_with(size, u));
+        numbers.min().unwrap_or(self.all())
     }
 
-    // The lowest number that the pair rule gives for u and another chosen mark.
-    fn by_pairs_with(&self, u: u32) -> Option<usize> {
+    // The lowest number that the pair rule gives for u and another of so many chosen marks.
+    fn by_pairs_with(&self, size: usize, u: u32) -> Option<usize> {
+        let own = size.saturating_add(self.spare(size, u));
         (0..12)
             .filter(|v| self.is_chosen(*v) && *v != u)
             .map(|v| {
-                self.size()
-                    .saturating_add(self.spare(u))
-                    .saturating_add(self.spare(v))
+                own.saturating_add(self.spare(size, v))
                     .saturating_add(self.others_near_both(u, v))
             })
             .min()

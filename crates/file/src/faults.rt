@@ -11,7 +11,7 @@ use fileword::layout::{Kind, k_of, load_of, lower_of, marks_of, upper_of};
 fn is_end(word: u32) -> bool
     ensures { result ≡ nat_eq (kind word) 15 }
 {
-    Kind::of(word) == Some(Kind::End)
+    Kind::End.is_of(word)
 }
 
 // Whether a word may stand after the head, for a reader who wants this form, or either if it is none.
@@ -35,7 +35,7 @@ fn stands_in_measured(marks: u32, place: usize, word: u32) -> bool
 {
     let end = 2 + 4 * marks as usize;
     if place < end {
-        Kind::of(word) == Some(KINDS_OF_A_MARK[(place - 2) % 4])
+        KINDS_OF_A_MARK[(place - 2) % 4].is_of(word)
     } else {
         place == end && is_end(word)
     }
@@ -104,7 +104,7 @@ impl Reading<'_> {
     {
         let word = word_at(self.words, place);
         match (place, form_said(self.words)) {
-            (0, _) => Kind::of(word) == Some(Kind::Head),
+            (0, _) => Kind::Head.is_of(word),
             (1, _) => may_begin(self.wanted, word),
             (_, Form::Measured) => stands_in_measured(marks_said(self.words), place, word),
             (_, Form::Pairs) => stands_in_pairs(word_at(self.words, place - 1), word),

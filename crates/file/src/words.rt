@@ -32,8 +32,9 @@ pub(crate) fn sheet_marks(words: &[u32]) -> u32
 pub(crate) fn form_said(words: &[u32]) -> Form
     ensures { result ≡ form_said words.now }
 {
-    match Kind::of(word_at(words, 1)) {
-        Some(Kind::Tolerance) => Form::Measured,
-        _ => Form::Pairs,
+    if Kind::Tolerance.is_of(word_at(words, 1)) {
+        Form::Measured
+    } else {
+        Form::Pairs
     }
 }

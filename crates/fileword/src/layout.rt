@@ -1,6 +1,6 @@
 // Taking a file word apart, and putting one together.
-ghost use Rattle.std.specs.Prelude.{◌≡◌, ◌%◌, ◌^◌};
-ghost use Rattle.fileword.specs.Layout.{kind, KindIs, load, upper, lower, head_marks, head_k, pair_word};
+ghost use Rattle.std.specs.Prelude.{◌≡◌, ◌%◌, ◌^◌, ◌==◌};
+ghost use Rattle.fileword.specs.Layout.{kind, kind_number, KindIs, load, upper, lower, head_marks, head_k, pair_word};
 
 // The top four bits, also where they are the number of no kind.
 pub fn kind_of(word: u32) -> u32
@@ -43,6 +43,13 @@ impl Kind {
             15 => Some(Kind::End),
             _ => None,
         }
+    }
+
+    // Whether a word is of this kind: one comparison, where `of` tells all kinds apart.
+    pub fn is_of(self, word: u32) -> bool
+        ensures { result ≡ (kind word == kind_number self) }
+    {
+        kind_of(word) == self as u32
     }
 }
 

@@ -16,7 +16,7 @@ fn partner(word: u32, marks: u32, i: u32) -> Option<u32>
 {
     let a = upper_of(word);
     let b = lower_of(word);
-    if Kind::of(word) != Some(Kind::Pair) || a >= b || b >= marks {
+    if !Kind::Pair.is_of(word) || a >= b || b >= marks {
         return None;
     }
     if a == i {

@@ -1,7 +1,7 @@
 -- The elements around the end of some places: one more at the back, one less at the front.
 use Rattle.std.proofs.Common.{◌≡◌, ℕ, suc, ◌+◌, ◌-◌, ◌%◌, ◌<◌, ◌≤◌, List, [], ◌∷◌, ◌++◌, length, get_or, drop, set, sym, refl, ap, ◌∙◌, mod-eq_of_lt, add-one, arith, length-append, length-drop, length-set, length-take, drop-cons, drop-set-lt}
 use native.Mathlib.Decide.{dec_lt}
-use native.Mathlib.Nat.{mod_self, mod-add-mod, add-mod_right}
+use native.Mathlib.Nat.{mod-add-mod, add-mod_left, add-mod_right}
 use lib.Seq.{drop-set-add, take-append-le}
 use Rattle.std.proofs.lemmas.List.{take_more_set, set-append_right, drop_all}
 use Rattle.queue.specs.Waits.{around}
@@ -25,10 +25,16 @@ next_more h n k =
     ap (λ (j : ℕ). j % k) e ∙ sym (mod-add-mod (h + n) k 1)
 
 -- one less at the front: the same place
-pub next_less : (h n k : ℕ) → 0 < n → (h % k + 1 + (n - 1)) % k ≡ (h + n) % k
+pub next_less : (h n k : ℕ) → 0 < n → (h + 1 + (n - 1)) % k ≡ (h + n) % k
 next_less h n k l =
-    let e : h % k + 1 + (n - 1) ≡ h % k + n = omega arith in
-    ap (λ (j : ℕ). j % k) e ∙ mod-add-mod h k n
+    let e : h + 1 + (n - 1) ≡ h + n = omega arith in
+    ap (λ (j : ℕ). j % k) e
+
+-- n places past the end, and past the start
+pub next_end : (n k : ℕ) → (0 + n) % k ≡ (k + n) % k
+next_end n k =
+    let e : 0 + n ≡ n = omega arith in
+    ap (λ (j : ℕ). j % k) e ∙ sym (add-mod_left k n)
 
 module _ {T : Type 0} (ps : List T) where
   -- as many as are asked for, where there are so many places
@@ -69,25 +75,13 @@ module _ {T : Type 0} (ps : List T) where
   pop_ahead h n d l = rw (drop-cons ps h d l) refl
 
   -- the first, and those behind it
-  pop_front : (h n : ℕ) (d : T) → h < length ps → 0 < n → around ps h n ≡ get_or ps h d ∷ around ps (h + 1) (n - 1)
+  pub pop_front : (h n : ℕ) (d : T) → h < length ps → 0 < n → around ps h n ≡ get_or ps h d ∷ around ps (h + 1) (n - 1)
   pop_front h n d l p =
       let e : n ≡ suc (n - 1) = omega arith in
       ap (around ps h) e ∙ pop_ahead h (n - 1) d l ∙ ap (λ k. get_or ps h d ∷ around ps k (n - 1)) (sym (add-one h))
 
   -- from the end on is from the start on
-  pop_around : (n : ℕ) → n ≤ length ps → around ps (length ps) n ≡ around ps 0 n
+  pub pop_around : (n : ℕ) → n ≤ length ps → around ps (length ps) n ≡ around ps 0 n
   pop_around n l =
       let z : length ps ≤ length ps = omega arith in
       rw (drop_all (length ps) ps z) (sym (take-append-le n ps ps l))
-
-  -- the first, at the head, or at the start where the head is at the end
-  pub pop_next : (h n : ℕ) (d : T) → h ≤ length ps → 0 < n → n ≤ length ps →
-      around ps h n ≡ get_or ps (h % length ps) d ∷ around ps (h % length ps + 1) (n - 1)
-  pop_next h n d a p l =
-      elim (dec_lt h (length ps)) [
-        | yes m ↦ rw (mod-eq_of_lt m) (pop_front h n d m p)
-        | no m ↦
-            let e : h ≡ length ps = omega arith in
-            let z : h % length ps ≡ 0 = ap (λ (k : ℕ). k % length ps) e ∙ mod_self (length ps) in
-            rw z (ap (λ (k : ℕ). around ps k n) e ∙ pop_around n l ∙ pop_front 0 n d (omega arith) p)
-      ]

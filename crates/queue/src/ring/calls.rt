@@ -68,7 +68,12 @@ impl<'a, T: Copy> Queue<'a, T> {
         ensures { Took self.old result self.new }
     {
         let left = self.len.checked_sub(1)?;
-        let head = self.head % self.places.len();
+        // not by `%`: with a division a push and a pop take nearly twice as long
+        let head = if self.head == self.places.len() {
+            0
+        } else {
+            self.head
+        };
         let x = self.places[head];
         self.head = head + 1;
         self.len = left;

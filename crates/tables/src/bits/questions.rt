@@ -25,11 +25,12 @@ impl Sheet for BitTable {
     }
 }
 
-// Takes a mark out of a row.
+// Takes a mark out of a row. Not by a set of marks: that is made of the whole row, and a strike takes longer.
 fn clear_bit(row: &mut [u32; 4], mark: u32)
+    requires { mark < 128 }
     ensures { holds row.new ≡ holds row.old ∖ only mark }
 {
-    *row = MarkSet::from_words(*row).without(mark).words();
+    row[mark as usize / 32] &= !(1 << (mark % 32));
 }
 
 // Takes each mark of a pair out of the other's row.

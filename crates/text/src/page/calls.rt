@@ -1,5 +1,5 @@
 //! What can be done with a page.
-ghost use Rattle.std.specs.Prelude.{◌≡◌, [], ◌++◌, take, decimal};
+ghost use Rattle.std.specs.Prelude.{◌≡◌, [], ◌∷◌, ◌++◌, take, decimal};
 ghost use Rattle.text.specs.Shown.{shown};
 
 use super::{Page, ROOM};
@@ -22,6 +22,16 @@ impl Page {
         &self.bytes[0..self.len]
     }
 
+    // Puts one byte behind the text; a full page stays as it is. For digits: put as runs of one byte they take a third longer.
+    fn push(&mut self, b: u8)
+        ensures { shown self.new ≡ take 512 (shown self.old ++ b ∷ []) }
+    {
+        if self.len < ROOM {
+            self.bytes[self.len] = b;
+            self.len += 1;
+        }
+    }
+
     // Puts bytes behind the text; what does not fit is left out.
     pub fn push_bytes(&mut self, more: &[u8])
         ensures { shown self.new ≡ take 512 (shown self.old ++ more.now) }
@@ -39,6 +49,6 @@ impl Page {
         if n >= 10 {
             self.push_number(n / 10);
         }
-        self.push_bytes(&[b'0' + (n % 10) as u8]);
+        self.push(b'0' + (n % 10) as u8);
     }
 }

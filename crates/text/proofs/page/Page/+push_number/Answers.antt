@@ -29,7 +29,7 @@ returns t c =
     let n = c.args.n in
     let xs = shown c.args.self.now in
     let was = c.if-n-ge10.self in
-    let digit : shown c.push_bytes.new.self ≡ take 512 (shown was ++ last n) = c.push_bytes.ensures in
+    let digit : shown c.push.new.self ≡ take 512 (shown was ++ last n) = c.push.ensures in
     elim c.if-n-ge10.branch [
       | then-n-ge10 w ↦
           let front : shown w.push_number.new.self ≡ take 512 (xs ++ decimal (n / 10)) = w.push_number.ensures in
