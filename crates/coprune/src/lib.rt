@@ -5,6 +5,6 @@ mod limits;
 pub mod look;
 pub mod prune;
 pub mod refusal;
-mod rows;
+pub mod rows;
 mod sweep;
 mod waiting;

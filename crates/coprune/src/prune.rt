@@ -7,11 +7,11 @@ ghost use Rattle.coprune.specs.Coprune.{Strikes, Ends};
 use crate::limits::Limits;
 use crate::look::Pair;
 use crate::refusal::PruneRefusal;
-use crate::rows::marks_with;
+use crate::rows::{count_agreements, marks_with};
 use crate::sweep::{drain, sweep};
 use crate::waiting::Waiting;
 use marks::set::MarkSet;
-use sheet::kinds::{Sheet, Strike, neighbours};
+use sheet::kinds::{Sheet, Strike};
 
 // Strikes the agreements that no k-plex of more than floor marks can use, and puts the marks that are left into a set.
 // The spaces are room for what is to be looked at again, and may hold anything afterwards. The set and the spaces are lent one by
@@ -49,18 +49,11 @@ pub fn co_prune<S: Strike>(
     Ok(0)
 }
 
-// How many places the pairs that wait want: one for each agreement, which is counted at its lower mark.
+// How many places the pairs that wait want: one for each agreement.
 pub fn pair_places<S: Sheet>(sheet: &S) -> u32
     ensures { result ≡ pair_places (S.Sheet.meaning sheet.now) }
 {
-    // kept from mark to mark: made anew for each, the marks below it take more than twice as long
-    let mut seen = MarkSet::empty();
-    let mut count = 0;
-    for i in 0..sheet.marks() {
-        seen = seen.with(i);
-        count += neighbours(sheet, i).minus(seen).count();
-    }
-    count
+    count_agreements(sheet)
 }
 
 // Strikes until no agreement is left that may not stay.

@@ -1,7 +1,7 @@
 // What the rows of a sheet say of its agreements.
 ghost use Rattle.std.specs.Prelude.{◌≡◌};
 ghost use Rattle.marks.specs.Members.{members};
-ghost use Rattle.pruning.specs.Pruned.{offends, left_marks};
+ghost use Rattle.pruning.specs.Pruned.{offends, left_marks, agreements};
 
 use crate::limits::Limits;
 use marks::set::MarkSet;
@@ -21,4 +21,18 @@ pub(crate) fn marks_with<S: Sheet>(sheet: &S, ends: u32) -> MarkSet
     ensures { members result ≡ left_marks (S.Sheet.meaning sheet.now).marks ends (S.Sheet.meaning sheet.now).agrees }
 {
     MarkSet::below(sheet.marks()).filter(|i| neighbours(sheet, i).count() >= ends)
+}
+
+// How many agreements there are, each counted at its lower mark.
+pub fn count_agreements<S: Sheet>(sheet: &S) -> u32
+    ensures { result ≡ agreements (S.Sheet.meaning sheet.now).marks (S.Sheet.meaning sheet.now).agrees }
+{
+    // kept from mark to mark: made anew for each, the marks below it take more than twice as long
+    let mut seen = MarkSet::empty();
+    let mut count = 0;
+    for i in 0..sheet.marks() {
+        seen = seen.with(i);
+        count += neighbours(sheet, i).minus(seen).count();
+    }
+    count
 }

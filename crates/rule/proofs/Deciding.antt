@@ -16,8 +16,7 @@ use Rattle.ceiling.proofs.Smallest.{smallest_unique}
 use Rattle.ceiling.proofs.Formulas.{degree_is}
 use Rattle.rule.specs.declared.asked.Asked.{Asked}
 use Rattle.rule.specs.Questions.{agreed, Finds}
-use Rattle.rule.specs.Passes.{Lowered}
-use Rattle.rule.proofs.Passing.{nothing_yet}
+use Rattle.rule.specs.Passes.{nothing_yet, Lowered}
 
 -- a rule that finds its number, and else takes all marks, replies as it must
 pub found_replies : (number : ℕ → Number) (q : Asked) (k : ℕ) (t : BitTable) (s : MarkSet) (c : Set) (found : Option ℕ) (all m : ℕ) →

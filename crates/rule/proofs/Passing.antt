@@ -5,10 +5,6 @@ use Rattle.std.proofs.lemmas.Bool.{cases_lt, cases_eq, cases_Bool, both_ways, an
 use Rattle.plex.specs.Sets.{Set, none, only, ◌∖◌, ◌⊆◌}
 use Rattle.rule.specs.Passes.{Lowered}
 
--- the number with which a search for the smallest begins
-abbrev pub nothing_yet : ℕ
-nothing_yet = 4294967295
-
 -- P holds of the marks of s that are not among the rest
 abbrev pub Passed : (ℕ → Type 0) → Set → Set → Type 0
 Passed P s rest = (u : ℕ) → s u ≡ true → rest u ≡ false → P u

@@ -1,6 +1,10 @@
 // The degree rule: a k-plex has at most k marks more than any of its marks agrees with.
-ghost use Rattle.ceiling.specs.Formulas.{by_degree};
-ghost use Rattle.rule.specs.Questions.{Finds};
+ghost use Rattle.std.specs.Prelude.{◌≡◌, ◌<◌, true};
+ghost use Rattle.plex.specs.Sets.{card};
+ghost use Rattle.ceiling.specs.Formulas.{by_degree, in_range};
+ghost use Rattle.marks.specs.Members.{members};
+ghost use Rattle.rule.specs.Passes.{Degrees};
+ghost use Rattle.rule.specs.Questions.{agreed, Finds};
 ghost use Rattle.ceiling.proofs.Lawful.{degree_lawful};
 
 use crate::asked::Asked;
@@ -26,7 +30,8 @@ impl CeilingRule for DegreeRule {
 impl Asked<'_> {
     // The smallest number of a chosen mark, in one pass over their rows; none where the rule does not apply.
     fn smallest_degree(self) -> Option<u32>
-        ensures { Finds by_degree self.entry result }
+        ensures passes { in_range self.entry.k ≡ true → 0 < card 128 (members self.entry.chosen) → Degrees self.entry.k (agreed self.entry) (members self.entry.chosen) (members self.entry.others) result }
+        ensures finds { Finds by_degree self.entry result }
     {
         if !in_range(self.k) || self.chosen.is_empty() {
             return None;

@@ -3,9 +3,10 @@ use Rattle.plex.specs.Sets.{◌∩◌}
 use Rattle.plex.proofs.Count.{card_le}
 use Rattle.marks.specs.Members.{members}
 use Rattle.marks.proofs.Lowering.{fewer_without}
+use Rattle.rule.specs.Passes.{nothing_yet}
 use Rattle.rule.specs.Questions.{agreed}
 use Rattle.rule.specs.Rooms.{number_of_two}
-use Rattle.rule.proofs.Passing.{nothing_yet, all_left, left_part}
+use Rattle.rule.proofs.Passing.{all_left, left_part}
 use Rattle.rule.proofs.Pairs.{pair_both_ways, two_none, two_more, two_all}
 use Rattle.rule.proofs.asked.Asked.smallest.Goals as goal
 

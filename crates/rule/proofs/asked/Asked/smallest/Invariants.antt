@@ -1,7 +1,7 @@
 use Rattle.plex.specs.Sets.{◌⊆◌}
 use Rattle.marks.specs.Members.{members}
+use Rattle.rule.specs.Passes.{nothing_yet}
 use Rattle.rule.specs.Rooms.{number_of_two}
-use Rattle.rule.proofs.Passing.{nothing_yet}
 use Rattle.rule.proofs.Pairs.{LowestOfTwo}
 use Rattle.rule.proofs.asked.Asked.smallest.Given as goal
 

@@ -1,13 +1,14 @@
 use Rattle.std.proofs.Common.{◌≡◌, ◌<◌, ◌+◌, length, min, sym, ap, ◌∙◌, subst, arith, rules}
-use Rattle.std.proofs.lemmas.Bool.{eqb-true}
+use Rattle.std.proofs.lemmas.Bool.{eqb-true, both_ways}
 use Rattle.plex.specs.Sets.{card}
 use Rattle.plex.proofs.Count.{card_le}
 use Rattle.marks.specs.Members.{members}
 use Rattle.marks.proofs.Four.{holds_within}
+use Rattle.ceiling.specs.Formulas.{in_range}
 use Rattle.ceiling.proofs.Formulas.{degree_is}
-use Rattle.rule.specs.Passes.{Lowered}
+use Rattle.rule.specs.Passes.{nothing_yet, Lowered}
 use Rattle.rule.specs.Questions.{agreed}
-use Rattle.rule.proofs.Passing.{nothing_yet, all_left, left_part, passed_nothing, passed_more, passed_all, lowest_none, lowest_more, lowest_all}
+use Rattle.rule.proofs.Passing.{all_left, left_part, passed_nothing, passed_more, passed_all, lowest_none, lowest_more, lowest_all}
 use Rattle.rule.proofs.Plexes.{MissesFew, misses_counted, agreements_counted, plex_by_misses, no_plex}
 use Rattle.rule.proofs.Deciding.{out_of_range, small_range, some_marks, degree_found}
 use Rattle.rule.proofs.asked.Asked.smallest_degree.Invariants.{number_in}
@@ -22,9 +23,15 @@ returns-then-not-in_range c =
     let rule = degree_is 128 q.k (agreed q) s (members q.others) (holds_within q.chosen.words l) in
     elim c.then-not-in_range.branch [
       | then-not-in_range-via-then-not-in_range v ↦
-          sym (rule.otherwise (out_of_range q.k (agreed q) s (sym c.in_range.ensures ∙ v.if-not-in_range.true)))
+          let off = sym c.in_range.ensures ∙ v.if-not-in_range.true in record {
+            passes = λ r some p. both_ways (in_range q.k) off r;
+            finds = sym (rule.otherwise (out_of_range q.k (agreed q) s off));
+          }
       | then-not-in_range-via-else-not-in_range+then-is_empty v ↦
-          sym (rule.empty (eqb-true (card 128 s) 0 (sym v.is_empty.ensures ∙ v.if-is_empty.true)))
+          let none = eqb-true (card 128 s) 0 (sym v.is_empty.ensures ∙ v.if-is_empty.true) in record {
+            passes = λ r some p. omega (arith, none, some);
+            finds = sym (rule.empty none);
+          }
     ]
 
 pub loop-u-init : goal.loop-u-init
@@ -48,7 +55,10 @@ returns-then-count-self c =
     let l : length q.chosen.words ≡ 4 = search rules in
     let missed = misses_counted (agreed q) s u c.neighbours-row.ensures.set c.minus.ensures c.count.ensures in
     let no = no_plex q.k (agreed q) s u (c.loop-u.invariant.2 u c.in-Some.ensures.steps.1.1) (omega (arith, missed, c.if-count-self.true)) in
-    sym ((degree_is 128 q.k (agreed q) s (members q.others) (holds_within q.chosen.words l)).otherwise (λ w. no w.plex))
+    record {
+      passes = λ r some p. no p;
+      finds = sym ((degree_is 128 q.k (agreed q) s (members q.others) (holds_within q.chosen.words l)).otherwise (λ w. no w.plex));
+    }
 
 pub overflow_add-self : goal.overflow_add-self
 overflow_add-self c =
@@ -84,7 +94,11 @@ returns c =
     let l : length q.chosen.words ≡ 4 = search rules in
     let some : 0 < card 128 s = some_marks (card 128 s) c.if-is_empty.ensures in
     let found = lowest_all s rest (number_in q.k (agreed q) (members c.or-all.result)) nothing_yet c.loop-u.smallest over inv.4 in
-    degree_found q.k (agreed q) s (members q.others) (holds_within q.chosen.words l) (sym c.if-not-in_range.ensures) some c.loop-u.smallest (
-      plex_by_misses q.k (agreed q) s (passed_all (MissesFew q.k (agreed q) s) s rest over inv.3),
-      subst (λ all. Lowered s (number_in q.k (agreed q) all) nothing_yet c.loop-u.smallest) c.or-all.ensures found,
-    )
+    let plex = plex_by_misses q.k (agreed q) s (passed_all (MissesFew q.k (agreed q) s) s rest over inv.3) in
+    let lowest = subst (λ all. Lowered s (number_in q.k (agreed q) all) nothing_yet c.loop-u.smallest) c.or-all.ensures found in
+    record {
+      passes = λ r n. (plex, lowest);
+      finds =
+          degree_found q.k (agreed q) s (members q.others) (holds_within q.chosen.words l) (sym c.if-not-in_range.ensures) some c.loop-u.smallest
+          (plex, lowest);
+    }

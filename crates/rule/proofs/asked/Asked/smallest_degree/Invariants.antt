@@ -1,8 +1,9 @@
 use Rattle.std.proofs.Common.{ℕ, ◌+◌}
 use Rattle.plex.specs.Sets.{Set, Agreement, card, ◌∩◌, ◌⊆◌}
 use Rattle.marks.specs.Members.{members}
+use Rattle.rule.specs.Passes.{nothing_yet}
 use Rattle.rule.specs.Questions.{agreed}
-use Rattle.rule.proofs.Passing.{nothing_yet, Passed, LowestSoFar}
+use Rattle.rule.proofs.Passing.{Passed, LowestSoFar}
 use Rattle.rule.proofs.Plexes.{MissesFew}
 use Rattle.rule.proofs.asked.Asked.smallest_degree.Given as goal
 

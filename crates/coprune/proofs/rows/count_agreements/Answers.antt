@@ -6,7 +6,7 @@ use Rattle.pruning.specs.Pruned.{sum_to}
 use Rattle.plex.proofs.Within.{minus_count}
 use Rattle.plex.proofs.Below.{none_below}
 use Rattle.coprune.proofs.Counting.{sum_none, sum_more, higher, higher_fit, seen_more}
-use Rattle.coprune.proofs.prune.pair_places.Goals as goal
+use Rattle.coprune.proofs.rows.count_agreements.Goals as goal
 
 pub loop-i-init : goal.loop-i-init
 loop-i-init g c = (c.empty-seen.ensures ∙ none_below, sym (sum_none _))
