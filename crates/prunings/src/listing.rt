@@ -2,7 +2,7 @@
 use trials::agreed::Agreed;
 
 // How many marks agree with i. Not by `filter` and `count`: the program, which counts more than anything else, would take
-// three times as long.
+// more than twice as long.
 pub fn degree(all: &Agreed<12>, i: u32) -> usize {
     (0..12)
         .map(|j| usize::from(all.has(i, j)))
