@@ -22,7 +22,7 @@ impl Page {
         &self.bytes[0..self.len]
     }
 
-    // Puts one byte behind the text; a full page stays as it is. For digits: put as runs of one byte they take a third longer.
+    // Puts one byte behind the text; a full page stays as it is. For digits, which as runs of one byte each take longer.
     fn push(&mut self, b: u8)
         ensures { shown self.new ≡ take 512 (shown self.old ++ b ∷ []) }
     {
